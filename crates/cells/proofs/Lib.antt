@@ -1,0 +1,12 @@
+-- Laws that belong to no one function, for this crate and those above it.
+pub mod BitLaws
+pub mod WordLaws
+pub mod MaskLaws
+pub mod PairLaws
+pub mod FormLaws
+pub mod EncodeLaws
+pub mod ScalingLaws
+pub mod AnyLaws
+pub mod FaultLaws
+pub mod CountLaws
+pub mod LowestLaws

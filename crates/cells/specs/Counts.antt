@@ -1,0 +1,20 @@
+-- Sums, and how many places hold a digit. Assumes nothing.
+use Prim.Native.Nat.{ℕ, zero, suc, _+_, _*_}
+use Rattle.cells.specs.Bit.{bit}
+use Rattle.cells.specs.Pair.{digit}
+
+-- f 0 + .. + f (n - 1)
+unfoldable pub sumTo : (ℕ → ℕ) → ℕ → ℕ
+sumTo f zero = 0
+sumTo f (suc n) = sumTo f n + f n
+
+-- 1 where the two digits are the same, and 0 elsewhere
+unfoldable pub is : ℕ → ℕ → ℕ
+is zero zero = 1
+is zero (suc n) = 0
+is (suc m) zero = 0
+is (suc m) (suc n) = is m n
+
+-- how many of the 64 places that the mask m has hold the digit d
+unfoldable pub count : ℕ → ℕ → ℕ → ℕ → ℕ
+count d u s m = sumTo (λ t. bit m t * is (digit u s t) d) 64

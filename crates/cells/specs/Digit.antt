@@ -1,0 +1,21 @@
+-- The field of three elements on the digits 0, 1 and 2, where 2 is -1; and the two bits of a digit: 0 is 00, 1 is unit only, 2 is both.
+-- Assumes nothing.
+use Prim.Native.Nat.{ℕ, _+_, _-_, _*_, _%_, min}
+
+unfoldable pub add3 : ℕ → ℕ → ℕ
+add3 a b = (a + b) % 3
+
+unfoldable pub sub3 : ℕ → ℕ → ℕ
+sub3 a b = (a + 2 * b) % 3
+
+unfoldable pub neg3 : ℕ → ℕ
+neg3 a = 2 * a % 3
+
+unfoldable pub mul3 : ℕ → ℕ → ℕ
+mul3 a b = a * b % 3
+
+unfoldable pub unitOf : ℕ → ℕ
+unitOf d = min d 1
+
+unfoldable pub signOf : ℕ → ℕ
+signOf d = min (d - 1) 1

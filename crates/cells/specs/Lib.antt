@@ -1,0 +1,7 @@
+pub mod Bit
+pub mod Digit
+pub mod Pair
+pub mod Scaling
+pub mod Any
+pub mod Counts
+pub mod Lowest

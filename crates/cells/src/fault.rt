@@ -1,0 +1,32 @@
+// The faults of a pair of words of which the lowest n places are real columns.
+ghost use mathlib.Core.Path.{_≡_};
+ghost use Prim.Native.Nat.{ℕ, _+_, _-_, _<_, _≤_};
+ghost use lib.Dec.{ltb};
+ghost use Rattle.cells.specs.Any.{any};
+ghost use Rattle.cells.specs.Bit.{bit};
+ghost use Rattle.cells.specs.Pair.{at};
+use crate::Cells;
+use crate::mask::low;
+
+// A real place holds sign without unit.
+pub fn stray(x: Cells, n: u64) -> bool
+    requires { ⌜ (0 < n) × (n ≤ 64) ⌝ }
+    ensures { λ r. ⌜ r ≡ any n (λ t. ltb (bit (x .unit) t) (bit (x .sign) t)) ⌝ }
+{
+    let bad = x.sign & (x.sign ^ x.unit);
+    if bad & low(n) == 0 {
+        return false;
+    }
+    true
+}
+
+// A place from n on, padding, holds a bit.
+pub fn padded(x: Cells, n: u64) -> bool
+    requires { ⌜ n < 64 ⌝ }
+    ensures { λ r. ⌜ r ≡ any (64 - n) (λ t. ltb 0 (at x (n + t))) ⌝ }
+{
+    if (x.unit | x.sign) >> n == 0 {
+        return false;
+    }
+    true
+}

@@ -1,0 +1,14 @@
+// Sixty-four cells at once: a unit word and a sign word, by value. A cell is a digit of the field of three elements.
+pub mod counts;
+pub mod difference;
+pub mod fault;
+pub mod lowest;
+pub mod mask;
+pub mod negation;
+pub mod scaling;
+pub mod sum;
+
+pub struct Cells {
+    pub unit: u64,
+    pub sign: u64,
+}
