@@ -1,6 +1,6 @@
 -- Sixty-four cells in a pair of words, unit and sign. Assumes nothing.
 use mathlib.Core.Path.{_≡_}
-use Prim.Native.Nat.{ℕ, _+_, _≤_}
+use Prim.Native.Nat.{ℕ, _+_, _^_, _≤_, _<_}
 use Rattle.cells.specs.declared.Cells.{Cells}
 use Rattle.cells.specs.Bit.{bit}
 
@@ -17,7 +17,13 @@ pub record Holds (f : ℕ → ℕ) (u s : ℕ) : Type 0 where
   pub legal : LegalPair u s
   pub digits : (t : ℕ) → digit u s t ≡ f t
 
--- the same of the struct's two words
+-- the same, of words of 64 bits: then they are the only ones
+pub record WordPair (f : ℕ → ℕ) (u s : ℕ) : Type 0 where
+  pub holds : Holds f u s
+  pub unit-fits : u < 2 ^ 64
+  pub sign-fits : s < 2 ^ 64
+
+-- what the first three say of the struct's two words
 abbrev pub Good : Cells → Type 0
 Good x = LegalPair (x .unit) (x .sign)
 

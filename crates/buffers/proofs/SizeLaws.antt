@@ -1,0 +1,49 @@
+-- Sizes below the limit, and where a row lies. Assumes nothing.
+use mathlib.Core.Path.{_≡_, refl, sym, ap, _∙_}
+use Prim.Native.Nat.{ℕ, suc, _+_, _-_, _*_, _/_, _%_, _≤_, _<_}
+use native.Mathlib.Nat.{suc-mul, mul-le-mul, mul-le-mul-right}
+use native.Mathlib.Omega.{arith}
+use mathlib.Core.List.{List}
+use lib.ListN.{getD}
+use Rattle.cells.specs.Bit.{bit}
+use Rattle.buffers.specs.Buffer.{planes, wide, words, bitAt}
+
+pub planes-le : (c : ℕ) → c ≤ 1024 → planes c ≤ 16
+unfolding planes
+planes-le c h = omega arith
+
+-- the planes have room for the columns, and none of their words is padding alone
+pub planes-room : (c : ℕ) → c ≤ 64 * planes c
+unfolding planes
+planes-room c = omega arith
+
+pub planes-tight : (c : ℕ) → 64 * planes c < c + 64
+unfolding planes
+planes-tight c = omega arith
+
+pub wide-is : (c : ℕ) → wide c ≡ planes c + planes c
+unfolding wide
+wide-is c = omega arith
+
+pub row-in : (r c i : ℕ) → i < r → i * wide c + wide c ≤ words r c
+unfolding words
+row-in r c i h = rw (← suc-mul i (wide c)) (mul-le-mul-right (wide c) h)
+
+pub words-le : (r c : ℕ) → r ≤ 1024 → c ≤ 1024 → words r c ≤ 32768
+unfolding words wide
+words-le r c hr hc =
+    let h : 2 * planes c ≤ 32 = omega (arith, planes-le c hc) in
+    mul-le-mul {n₂ = 1024} {m₂ = 32} hr h
+
+-- row i of a matrix of n words, where q is the words of a plane
+pub row-fits : (r c i q n : ℕ) → q ≡ planes c → n ≡ words r c → i < r → i * (2 * q) + (q + q) ≤ n
+unfolding wide
+row-fits r c i q n e l h = rw (e, l) (omega (arith, row-in r c i h))
+
+-- column 64 p + t is place t of word p
+pub bitAt-word : (ws : List ℕ) (x p t : ℕ) → t < 64 → bitAt ws x (64 * p + t) ≡ bit (getD ws (x + p) 0) t
+unfolding bitAt
+bitAt-word ws x p t l =
+    let d : (64 * p + t) / 64 ≡ p = omega arith in
+    let m : (64 * p + t) % 64 ≡ t = omega arith in
+    rw (d, m)
