@@ -1,0 +1,60 @@
+use mathlib.Core.Path.{_≡_, refl}
+use mathlib.Core.Logic.{inl}
+use Prim.Native.Nat.{_+_, _*_}
+use Rattle.cells.specs.Digit.{add3}
+use Rattle.rows.proofs.PartLaws.{part-length, part-readable, lent}
+use borrow.Author.Needs.{needs}
+use native.Mathlib.Omega.{arith}
+use Rattle.rows.proofs.add.add.Statement.{statement}
+use Rattle.rows.proofs.add.add.Tie as tie
+
+mul-e : tie.Need-mul-e
+mul-e c = search needs
+
+add-e : tie.Need-add-e
+add-e c = search needs
+
+mul-add-row : tie.Need-mul-add-row
+mul-add-row c = search needs
+
+sub-add-row : tie.Need-sub-add-row
+sub-add-row c = search needs
+
+part-add-row-start : tie.Need-part-add-row-start
+part-add-row-start c = search needs
+
+part-add-row-end : tie.Need-part-add-row-end
+part-add-row-end c = search needs
+
+add-row-requires : tie.Need-add-row-requires
+add-row-requires c κs =
+    let room = c .before .before .before .pre .0 .room in
+    record {
+      fits = omega arith;
+      room = omega (arith, part-length (c .before .before .before .args .x) (c .before .before .before .args .x + 2 * c .before .before .before .args .q) (c .before .before .before .args .d .now) (omega arith) (omega arith));
+      first = part-readable (c .before .before .before .args .x) (c .before .before .before .args .x + 2 * c .before .before .before .args .q) (c .before .before .before .args .d .now) (omega arith) (omega arith) (c .before .before .before .args .x) 0 (c .before .before .before .args .q) (omega arith) (omega arith) (c .before .before .before .pre .0);
+      second = c .before .before .before .pre .1;
+      apart = inl refl;
+    }
+
+same-length : tie.Need-same-length
+same-length c = search needs
+
+returns : tie.Need-returns
+returns c =
+    let room = c .before .before .before .before .before .before .pre .0 .room in
+    lent add3 (c .before .before .before .before .before .before .args .x) (c .before .before .before .before .before .before .args .x + 2 * c .before .before .before .before .before .before .args .q) (c .before .before .before .before .before .before .args .x) 0 (c .before .before .before .before .before .before .args .x) 0 (c .before .before .before .before .before .before .args .q) (c .before .before .before .before .before .before .args .d .now) (c .before .before .before .before .before .before .args .s .now) (c .before .before .before .before .before .before .args .y) _ (omega arith) (omega arith) (omega arith) (omega arith) (omega arith) (omega arith) (c .before .before .add-row .ensures)
+
+pub add-spec : {M : Type 1} → statement M
+add-spec =
+    tie.close
+    (tie.spec
+    mul-e
+    add-e
+    mul-add-row
+    sub-add-row
+    part-add-row-start
+    part-add-row-end
+    add-row-requires
+    same-length
+    returns)

@@ -1,0 +1,69 @@
+use Prim.Native.Nat.{_+_}
+use Rattle.cells.specs.Digit.{add3}
+use mathlib.Core.Path.{ap, _∙_}
+use lib.ListN.{length, length-set}
+use Rattle.rows.proofs.RowLaws.{made-two, load-legal, pair2}
+use borrow.Author.Needs.{needs}
+use native.Mathlib.Omega.{arith}
+use Rattle.rows.proofs.add.add_two.Statement.{statement}
+use Rattle.rows.proofs.add.add_two.Tie as tie
+
+load-requires : tie.Need-load-requires
+load-requires c κs = search needs
+
+load-requires-2 : tie.Need-load-requires-2
+load-requires-2 c κs = search needs
+
+sum-requires : tie.Need-sum-requires
+sum-requires c κs = (load-legal (c .before .before .before .before .before .args .t .now) (c .before .before .before .before .before .args .y) (c .before .before .before .before .before .args .q) 2 0 (c .before .before .before .before .before .args .y) _ _ (c .before .before .before .before .before .pre .first .legal) (omega arith) (omega arith) (c .before .load .ensures .0) (c .before .load .ensures .1), load-legal (c .before .before .before .before .before .args .b .now) (c .before .before .before .before .before .args .z) (c .before .before .before .before .before .args .q) 2 0 (c .before .before .before .before .before .args .z) _ _ (c .before .before .before .before .before .pre .second .legal) (omega arith) (omega arith) (c .load2 .ensures .0) (c .load2 .ensures .1))
+
+add-load : tie.Need-add-load
+add-load c = search needs
+
+load-requires-3 : tie.Need-load-requires-3
+load-requires-3 c κs = search needs
+
+add-load-2 : tie.Need-add-load-2
+add-load-2 c = search needs
+
+load-requires-4 : tie.Need-load-requires-4
+load-requires-4 c κs = search needs
+
+sum-requires-2 : tie.Need-sum-requires-2
+sum-requires-2 c κs = (load-legal (c .before .before .before .before .before .before .before .before .before .args .t .now) (c .before .before .before .before .before .before .before .before .before .args .y) (c .before .before .before .before .before .before .before .before .before .args .q) 2 1 (c .before .before .before .before .before .before .before .before .before .args .y + 1) _ _ (c .before .before .before .before .before .before .before .before .before .pre .first .legal) (omega arith) (omega arith) (c .before .load3 .ensures .0) (c .before .load3 .ensures .1), load-legal (c .before .before .before .before .before .before .before .before .before .args .b .now) (c .before .before .before .before .before .before .before .before .before .args .z) (c .before .before .before .before .before .before .before .before .before .args .q) 2 1 (c .before .before .before .before .before .before .before .before .before .args .z + 1) _ _ (c .before .before .before .before .before .before .before .before .before .pre .second .legal) (omega arith) (omega arith) (c .load4 .ensures .0) (c .load4 .ensures .1))
+
+store-requires : tie.Need-store-requires
+store-requires c κs = search needs
+
+add-store : tie.Need-add-store
+add-store c = omega (arith, c .before .before .before .before .before .before .before .before .before .before .before .before .before .before .before .pre .room, c .before .before .before .before .before .before .before .before .before .before .before .before .before .before .before .good .0 .0)
+
+store-requires-2 : tie.Need-store-requires-2
+store-requires-2 c κs = omega (arith, c .before .before .before .store .kept .0, c .before .before .before .before .before .before .before .before .before .before .before .before .before .before .before .pre .room)
+
+same-length : tie.Need-same-length
+same-length c = search needs
+
+returns : tie.Need-returns
+returns c =
+    rw (c .before .before .store2 .ensures, c .before .before .before .before .before .before .store .ensures)
+    (made-two _ (c .before .before .before .before .before .before .before .before .before .before .before .before .before .before .before .before .before .before .args .x) (c .before .before .before .before .before .before .before .before .before .before .before .before .before .before .before .before .before .before .args .q) _ _ _ _ _ (c .before .before .before .before .before .before .before .before .before .before .before .before .before .before .before .before .before .before .pre .fits) (omega (arith, c .before .before .before .before .before .before .before .before .before .before .before .before .before .before .before .before .before .before .pre .room)) (pair2 add3 (c .before .before .before .before .before .before .before .before .before .before .before .before .before .before .before .before .before .before .args .q) (c .before .before .before .before .before .before .before .before .before .before .before .before .before .before .before .before .before .before .args .t .now) (c .before .before .before .before .before .before .before .before .before .before .before .before .before .before .before .before .before .before .args .y) (c .before .before .before .before .before .before .before .before .before .before .before .before .before .before .before .before .before .before .args .y) _ _ (c .before .before .before .before .before .before .before .before .before .before .before .before .before .before .before .before .before .before .args .b .now) (c .before .before .before .before .before .before .before .before .before .before .before .before .before .before .before .before .before .before .args .z) (c .before .before .before .before .before .before .before .before .before .before .before .before .before .before .before .before .before .before .args .z) _ _ 0 _ _ (omega arith) (c .before .before .before .before .before .before .before .before .before .before .before .before .before .before .load .ensures .0) (c .before .before .before .before .before .before .before .before .before .before .before .before .before .before .load .ensures .1) (omega arith) (c .before .before .before .before .before .before .before .before .before .before .before .before .before .load2 .ensures .0) (c .before .before .before .before .before .before .before .before .before .before .before .before .before .load2 .ensures .1) (c .before .before .before .before .before .before .before .before .before .before .before .before .sum .ensures) (omega (arith, c .before .before .before .before .before .before .before .before .before .before .before .before .sum .ok)) (omega (arith, c .before .before .before .before .before .before .before .before .before .before .before .before .sum .ok)))
+    (pair2 add3 (c .before .before .before .before .before .before .before .before .before .before .before .before .before .before .before .before .before .before .args .q) (c .before .before .before .before .before .before .before .before .before .before .before .before .before .before .before .before .before .before .args .t .now) (c .before .before .before .before .before .before .before .before .before .before .before .before .before .before .before .before .before .before .args .y) (c .before .before .before .before .before .before .before .before .before .before .before .before .before .before .before .before .before .before .args .y + 1) _ _ (c .before .before .before .before .before .before .before .before .before .before .before .before .before .before .before .before .before .before .args .b .now) (c .before .before .before .before .before .before .before .before .before .before .before .before .before .before .before .before .before .before .args .z) (c .before .before .before .before .before .before .before .before .before .before .before .before .before .before .before .before .before .before .args .z + 1) _ _ 1 _ _ (omega arith) (c .before .before .before .before .before .before .before .before .before .before .load3 .ensures .0) (c .before .before .before .before .before .before .before .before .before .before .load3 .ensures .1) (omega arith) (c .before .before .before .before .before .before .before .before .before .load4 .ensures .0) (c .before .before .before .before .before .before .before .before .before .load4 .ensures .1) (c .before .before .before .before .before .before .before .before .sum2 .ensures) (omega (arith, c .before .before .before .before .before .before .before .before .sum2 .ok)) (omega (arith, c .before .before .before .before .before .before .before .before .sum2 .ok))))
+
+pub add-two-spec : {M : Type 1} → statement M
+add-two-spec =
+    tie.close
+    (tie.spec
+    load-requires
+    load-requires-2
+    sum-requires
+    add-load
+    load-requires-3
+    add-load-2
+    load-requires-4
+    sum-requires-2
+    store-requires
+    add-store
+    store-requires-2
+    same-length
+    returns)

@@ -1,0 +1,60 @@
+use mathlib.Core.Path.{_≡_, refl}
+use mathlib.Core.Logic.{inl}
+use Prim.Native.Nat.{_+_, _*_}
+use Rattle.cells.specs.Digit.{sub3}
+use Rattle.rows.proofs.PartLaws.{part-length, part-readable, lent}
+use borrow.Author.Needs.{needs}
+use native.Mathlib.Omega.{arith}
+use Rattle.rows.proofs.subtract.subtract.Statement.{statement}
+use Rattle.rows.proofs.subtract.subtract.Tie as tie
+
+mul-e : tie.Need-mul-e
+mul-e c = search needs
+
+add-e : tie.Need-add-e
+add-e c = search needs
+
+mul-subtract-row : tie.Need-mul-subtract-row
+mul-subtract-row c = search needs
+
+sub-subtract-row : tie.Need-sub-subtract-row
+sub-subtract-row c = search needs
+
+part-subtract-row-start : tie.Need-part-subtract-row-start
+part-subtract-row-start c = search needs
+
+part-subtract-row-end : tie.Need-part-subtract-row-end
+part-subtract-row-end c = search needs
+
+subtract-row-requires : tie.Need-subtract-row-requires
+subtract-row-requires c κs =
+    let room = c .before .before .before .pre .0 .room in
+    record {
+      fits = omega arith;
+      room = omega (arith, part-length (c .before .before .before .args .x) (c .before .before .before .args .x + 2 * c .before .before .before .args .q) (c .before .before .before .args .d .now) (omega arith) (omega arith));
+      first = part-readable (c .before .before .before .args .x) (c .before .before .before .args .x + 2 * c .before .before .before .args .q) (c .before .before .before .args .d .now) (omega arith) (omega arith) (c .before .before .before .args .x) 0 (c .before .before .before .args .q) (omega arith) (omega arith) (c .before .before .before .pre .0);
+      second = c .before .before .before .pre .1;
+      apart = inl refl;
+    }
+
+same-length : tie.Need-same-length
+same-length c = search needs
+
+returns : tie.Need-returns
+returns c =
+    let room = c .before .before .before .before .before .before .pre .0 .room in
+    lent sub3 (c .before .before .before .before .before .before .args .x) (c .before .before .before .before .before .before .args .x + 2 * c .before .before .before .before .before .before .args .q) (c .before .before .before .before .before .before .args .x) 0 (c .before .before .before .before .before .before .args .x) 0 (c .before .before .before .before .before .before .args .q) (c .before .before .before .before .before .before .args .d .now) (c .before .before .before .before .before .before .args .s .now) (c .before .before .before .before .before .before .args .y) _ (omega arith) (omega arith) (omega arith) (omega arith) (omega arith) (omega arith) (c .before .before .subtract-row .ensures)
+
+pub subtract-spec : {M : Type 1} → statement M
+subtract-spec =
+    tie.close
+    (tie.spec
+    mul-e
+    add-e
+    mul-subtract-row
+    sub-subtract-row
+    part-subtract-row-start
+    part-subtract-row-end
+    subtract-row-requires
+    same-length
+    returns)

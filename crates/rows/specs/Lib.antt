@@ -1,0 +1,4 @@
+pub mod Row
+pub mod Fault
+pub mod Tally
+pub mod Block

@@ -1,0 +1,70 @@
+// A row is subtracted from a row, in place. Straight-line bodies of two words load all before they store: the back end makes vector code of them with
+// no test of overlap.
+ghost use Prim.Native.Nat.{_+_, _≤_};
+ghost use lib.ListN.{length};
+ghost use Rattle.cells.specs.Digit.{sub3};
+ghost use Rattle.rows.specs.Row.{of2, Made, Readable, InPlace};
+use super::words::load;
+use super::words::store;
+use cells::difference::difference;
+
+fn subtract_one(t: &mut [u64], b: &[u64], q: usize, x: usize, y: usize, z: usize)
+    requires { ⌜ InPlace q 1 x y z (now t) (now b) ⌝ }
+    ensures { λ _. ⌜ Made (of2 sub3 q (now (t .entry)) y (now (b .entry)) z) x q 1 (now (t .entry)) (now (t .exit)) ⌝ }
+{
+    let v = difference(load(t, q, y), load(b, q, z));
+    store(t, q, x, v);
+}
+
+fn subtract_two(t: &mut [u64], b: &[u64], q: usize, x: usize, y: usize, z: usize)
+    requires { ⌜ InPlace q 2 x y z (now t) (now b) ⌝ }
+    ensures { λ _. ⌜ Made (of2 sub3 q (now (t .entry)) y (now (b .entry)) z) x q 2 (now (t .entry)) (now (t .exit)) ⌝ }
+{
+    let v = difference(load(t, q, y), load(b, q, z));
+    let w = difference(load(t, q, y + 1), load(b, q, z + 1));
+    store(t, q, x, v);
+    store(t, q, x + 1, w);
+}
+
+// The last pairs, fewer than four: no loop, which would be tested for overlap.
+fn subtract_rest(t: &mut [u64], b: &[u64], q: usize, n: usize, x: usize, y: usize, z: usize)
+    requires { ⌜ (n ≤ 3) × InPlace q n x y z (now t) (now b) ⌝ }
+    ensures { λ _. ⌜ Made (of2 sub3 q (now (t .entry)) y (now (b .entry)) z) x q n (now (t .entry)) (now (t .exit)) ⌝ }
+{
+    if n == 0 {
+        return;
+    }
+    if n == 1 {
+        subtract_one(t, b, q, x, y, z);
+        return;
+    }
+    subtract_two(t, b, q, x, y, z);
+    if n == 2 {
+        return;
+    }
+    subtract_one(t, b, q, x + 2, y + 2, z + 2);
+}
+
+// The row at x of t becomes what is made of the row at y of t and the row at z of b.
+pub fn subtract_row(t: &mut [u64], b: &[u64], q: usize, x: usize, y: usize, z: usize)
+    requires { ⌜ InPlace q q x y z (now t) (now b) ⌝ }
+    ensures { λ _. ⌜ Made (of2 sub3 q (now (t .entry)) y (now (b .entry)) z) x q q (now (t .entry)) (now (t .exit)) ⌝ }
+{
+    let mut j = 0;
+    while j + 4 <= q {
+        subtract_two(t, b, q, x + j, y + j, z + j);
+        let i = j + 2;
+        subtract_two(t, b, q, x + i, y + i, z + i);
+        j += 4;
+    }
+    subtract_rest(t, b, q, q - j, x + j, y + j, z + j);
+}
+
+// The row at x of d, lent as a part that starts mid-slice, and the row at y of s.
+pub fn subtract(d: &mut [u64], s: &[u64], q: usize, x: usize, y: usize)
+    requires { ⌜ Readable q q x (now d) × Readable q q y (now s) ⌝ }
+    ensures { λ _. ⌜ Made (of2 sub3 q (now (d .entry)) x (now (s .entry)) y) x q q (now (d .entry)) (now (d .exit)) ⌝ }
+{
+    let e = x + 2 * q;
+    subtract_row(&mut d[x..e], s, q, 0, 0, y);
+}

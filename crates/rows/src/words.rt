@@ -1,0 +1,23 @@
+// A pair of words, read and written: the unit word at one place, the sign word q words later.
+ghost use mathlib.Core.Path.{_≡_};
+ghost use Prim.Native.Nat.{_+_, _<_};
+ghost use lib.ListN.{length, getD, set};
+use cells::Cells;
+
+pub fn load(t: &[u64], q: usize, at: usize) -> Cells
+    requires { ⌜ at + q < length (now t) ⌝ }
+    ensures { λ r. ⌜ (r .unit ≡ getD (now (t .entry)) at 0) × (r .sign ≡ getD (now (t .entry)) (at + q) 0) ⌝ }
+{
+    Cells {
+        unit: t[at],
+        sign: t[at + q],
+    }
+}
+
+pub fn store(t: &mut [u64], q: usize, at: usize, v: Cells)
+    requires { ⌜ at + q < length (now t) ⌝ }
+    ensures { λ _. ⌜ now (t .exit) ≡ set (set (now (t .entry)) at (v .unit)) (at + q) (v .sign) ⌝ }
+{
+    t[at] = v.unit;
+    t[at + q] = v.sign;
+}
