@@ -21,10 +21,11 @@ pub fn product(x: Cells, y: Cells) -> Cells
     requires { ⌜ Good x × Good y ⌝ }
     ensures { λ r. ⌜ Is (λ t. mul3 (at x t) (at y t)) r ⌝ }
 {
-    let u = x.unit & y.unit;
+    let unit = x.unit & y.unit;
+    let sign = x.sign ^ y.sign;
     Cells {
-        unit: u,
-        sign: u & (x.sign ^ y.sign),
+        unit: unit,
+        sign: unit & sign,
     }
 }
 
