@@ -21,6 +21,7 @@ uint64_t bench_table_step(uint64_t *d, size_t d_len, const uint64_t *s, size_t s
 
 enum { BUFFERS = 4, SIZES = 4 };
 
+// What a case works on; a buffer of bytes is one of words, cast.
 struct work {
     size_t size;
     uint64_t *at[BUFFERS];

@@ -1,3 +1,5 @@
+// Compiled apart from the loops that repeat them. In a product each step meets other rows, so what a call finds out about its own rows, as whether
+// they overlap, must not be found out once for all repetitions.
 #include "kernels.h"
 
 // d += s

@@ -11,4 +11,4 @@ pub mod subtract;
 pub mod sum;
 pub mod table_step;
 pub mod tally;
-mod words;
+pub mod words;

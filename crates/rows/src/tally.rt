@@ -1,19 +1,14 @@
 // The tally of a row: zeros, ones and twos, handed back together. Padding is counted nowhere.
 ghost use mathlib.Core.Path.{_≡_};
-ghost use Prim.Native.Nat.{_+_, _≤_, min};
+ghost use Prim.Native.Nat.{_+_, _≤_};
 ghost use lib.ListN.{length};
 ghost use Rattle.buffers.specs.Buffer.{planes};
 ghost use Rattle.rows.specs.Row.{Readable};
 ghost use Rattle.rows.specs.Tally.{tallyRow};
 use super::words::load;
+use buffers::planes::real;
 use cells::counts::counts;
 use cells::mask::low;
-
-fn least(a: usize, b: usize) -> usize
-    ensures { λ r. ⌜ r ≡ min a b ⌝ }
-{
-    if a < b { a } else { b }
-}
 
 pub fn tally(a: &[u64], q: usize, c: usize, x: usize) -> [u64; 3]
     requires { ⌜ (q ≡ planes c) × (c ≤ 1024) × Readable q q x (now a) ⌝ }
@@ -24,8 +19,8 @@ pub fn tally(a: &[u64], q: usize, c: usize, x: usize) -> [u64; 3]
     let mut twos: u64 = 0;
     let mut p = 0;
     while p < q {
-        let real = low(least(64, c - 64 * p) as u64);
-        let n = counts(load(a, q, x + p), real);
+        let mask = low(real(c, p) as u64);
+        let n = counts(load(a, q, x + p), mask);
         zeros += n[0];
         ones += n[1];
         twos += n[2];

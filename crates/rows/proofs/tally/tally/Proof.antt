@@ -3,7 +3,7 @@ use mathlib.Core.List.{List}
 use Prim.Native.Nat.{ℕ, _-_, _*_, _≤_, min}
 use lib.ListN.{getD}
 use Rattle.cells.proofs.CountLaws.{count-le}
-use Rattle.buffers.proofs.SizeLaws.{planes-le, planes-tight}
+use Rattle.buffers.proofs.SizeLaws.{planes-tight}
 use Rattle.rows.specs.Tally.{columnsWith, tallyRow}
 use Rattle.rows.proofs.RowLaws.{load-legal}
 use Rattle.rows.proofs.TallyLaws.{tally-none, tally-more, tally-all, columns-le}
@@ -21,17 +21,11 @@ abbrev μ-loop : tie.MeasureT-loop
 loop-holds : tie.Need-loop-holds Inv-loop μ-loop
 loop-holds c = (omega arith, tally-none _ _ _ _ (c .before .pre .0) 0, tally-none _ _ _ _ (c .before .pre .0) 1, tally-none _ _ _ _ (c .before .pre .0) 2)
 
-mul-least : tie.Need-mul-least Inv-loop μ-loop
-mul-least c = omega (arith, planes-le _ (c .before .before .before .pre .1))
-
-sub-least : tie.Need-sub-least Inv-loop μ-loop
-sub-least c = omega (arith, planes-tight (c .before .before .before .args .c))
-
-least-requires : tie.Need-least-requires Inv-loop μ-loop
-least-requires c κs = search needs
+real-requires : tie.Need-real-requires Inv-loop μ-loop
+real-requires c κs = (c .before .before .before .pre .1, omega (arith, planes-tight (c .before .before .before .args .c)))
 
 low-requires : tie.Need-low-requires Inv-loop μ-loop
-low-requires c κs = (omega (arith, c .least .ensures, planes-tight (c .before .before .before .before .args .c)), omega (arith, c .least .ensures))
+low-requires c κs = (omega (arith, c .real .ensures, planes-tight (c .before .before .before .before .args .c)), omega (arith, c .real .ensures))
 
 add-load : tie.Need-add-load Inv-loop μ-loop
 add-load c = omega (arith, c .before .before .before .before .before .pre .2 .room)
@@ -69,9 +63,9 @@ loop-less c = omega arith
 loop-again : tie.Need-loop-again Inv-loop μ-loop
 loop-again c = (
   omega arith,
-  tally-more _ _ _ _ (c .before .before .before .before .before .before .before .pre .0) 0 (c .before .before .before .before .before .loop .p) (c .before .load .result .unit) (c .before .load .result .sign) (c .before .before .before .least .result) (c .before .before .low .result) (c .before .before .before .before .before .loop .zeros) _ (omega arith) (c .before .before .before .least .ensures) (c .before .before .low .ensures) (c .before .load .ensures .0) (c .before .load .ensures .1) (c .before .before .before .before .before .loop .inv .1) (ap (λ (l : List ℕ). getD l 0 0) (c .counts .ensures)),
-  tally-more _ _ _ _ (c .before .before .before .before .before .before .before .pre .0) 1 (c .before .before .before .before .before .loop .p) (c .before .load .result .unit) (c .before .load .result .sign) (c .before .before .before .least .result) (c .before .before .low .result) (c .before .before .before .before .before .loop .ones) _ (omega arith) (c .before .before .before .least .ensures) (c .before .before .low .ensures) (c .before .load .ensures .0) (c .before .load .ensures .1) (c .before .before .before .before .before .loop .inv .2) (ap (λ (l : List ℕ). getD l 1 0) (c .counts .ensures)),
-  tally-more _ _ _ _ (c .before .before .before .before .before .before .before .pre .0) 2 (c .before .before .before .before .before .loop .p) (c .before .load .result .unit) (c .before .load .result .sign) (c .before .before .before .least .result) (c .before .before .low .result) (c .before .before .before .before .before .loop .twos) _ (omega arith) (c .before .before .before .least .ensures) (c .before .before .low .ensures) (c .before .load .ensures .0) (c .before .load .ensures .1) (c .before .before .before .before .before .loop .inv .3) (ap (λ (l : List ℕ). getD l 2 0) (c .counts .ensures)),
+  tally-more _ _ _ _ (c .before .before .before .before .before .before .before .pre .0) 0 (c .before .before .before .before .before .loop .p) (c .before .load .result .unit) (c .before .load .result .sign) (c .before .before .before .real .result) (c .before .before .low .result) (c .before .before .before .before .before .loop .zeros) _ (omega arith) (c .before .before .before .real .ensures) (c .before .before .low .ensures) (c .before .load .ensures .0) (c .before .load .ensures .1) (c .before .before .before .before .before .loop .inv .1) (ap (λ (l : List ℕ). getD l 0 0) (c .counts .ensures)),
+  tally-more _ _ _ _ (c .before .before .before .before .before .before .before .pre .0) 1 (c .before .before .before .before .before .loop .p) (c .before .load .result .unit) (c .before .load .result .sign) (c .before .before .before .real .result) (c .before .before .low .result) (c .before .before .before .before .before .loop .ones) _ (omega arith) (c .before .before .before .real .ensures) (c .before .before .low .ensures) (c .before .load .ensures .0) (c .before .load .ensures .1) (c .before .before .before .before .before .loop .inv .2) (ap (λ (l : List ℕ). getD l 1 0) (c .counts .ensures)),
+  tally-more _ _ _ _ (c .before .before .before .before .before .before .before .pre .0) 2 (c .before .before .before .before .before .loop .p) (c .before .load .result .unit) (c .before .load .result .sign) (c .before .before .before .real .result) (c .before .before .low .result) (c .before .before .before .before .before .loop .twos) _ (omega arith) (c .before .before .before .real .ensures) (c .before .before .low .ensures) (c .before .load .ensures .0) (c .before .load .ensures .1) (c .before .before .before .before .before .loop .inv .3) (ap (λ (l : List ℕ). getD l 2 0) (c .counts .ensures)),
 )
 
 returns : tie.Need-returns Inv-loop μ-loop
@@ -90,9 +84,7 @@ tally-spec =
     Inv-loop
     μ-loop
     loop-holds
-    mul-least
-    sub-least
-    least-requires
+    real-requires
     low-requires
     add-load
     load-requires

@@ -1,0 +1,145 @@
+-- What a list of tests answers. Assumes nothing.
+use mathlib.Core.Path.{_≡_, refl, sym, ap, _∙_}
+use mathlib.Core.Bool.{Bool, true, false, _&&_}
+use mathlib.Core.List.{List, [], _∷_, _++_}
+use Prim.Native.Nat.{ℕ, zero, suc, _<_}
+use native.Mathlib.Omega.{arith}
+use lib.Dec.{T, ltb, ltb→lt}
+use Rattle.requests.specs.declared.Answer.{Answer}
+use Rattle.requests.specs.declared.Answer.the-variants.{Done, TooLarge, SizesDiffer, WidthWrong, LengthWrong, StraySign, PaddingSet, StepsExceed, DigitWrong, TotalExceeds, NotAFrame, AboveLimit}
+use Rattle.requests.specs.Answers.{number, Tests, first, left, answered}
+
+-- ---- the code's way through the tests
+
+pub here : (t : Bool) (n : ℕ) (ts : Tests) → t ≡ true → first ((t, n) ∷ ts) ≡ n
+unfolding first
+here t n ts e = rw e
+
+pub later : (t : Bool) (n : ℕ) (ts : Tests) → t ≡ false → first ((t, n) ∷ ts) ≡ first ts
+unfolding first
+later t n ts e = rw e
+
+-- each number is above 0
+abbrev pub positive : Tests → Bool
+positive [] = true
+positive ((t, n) ∷ ts) = ltb 0 n && positive ts
+
+both : (p q : Bool) → T (p && q) → T p × T q
+both true q h = (tt, h)
+both false q h = absurd h
+
+pub append-given : (ts us : Tests) → (first ts ≡ 0 → ⊥) → first (ts ++ us) ≡ first ts
+unfolding first
+append-given [] us ne = absurd (ne refl)
+append-given ((true, m) ∷ ts) us ne = refl
+append-given ((false, m) ∷ ts) us ne = append-given ts us ne
+
+pub append-none : (ts us : Tests) → T (positive ts) → first ts ≡ 0 → first (ts ++ us) ≡ first us
+unfolding first
+append-none [] us p e = refl
+append-none ((true, m) ∷ ts) us p e = absurd (omega (arith, ltb→lt 0 m (both (ltb 0 m) (positive ts) p .0)))
+append-none ((false, m) ∷ ts) us p e = append-none ts us (both (ltb 0 m) (positive ts) p .1) e
+
+module _ {S : Type 0} (ts : Tests) (old new : S) where
+  pub refused : (n : ℕ) → (n ≡ 0 → ⊥) → first ts ≡ n → (n, old) ≡ answered ts old new
+  unfolding answered left
+  refused zero ne e = absurd (ne refl)
+  refused (suc n) ne e = rw e
+
+  pub finished : (s : S) → first ts ≡ 0 → s ≡ new → (0, s) ≡ answered ts old new
+  unfolding answered left
+  finished s e f = rw (e, f)
+
+-- ---- what an answer says
+
+-- no test holds
+abbrev pub None : Tests → Type 0
+None [] = Unit {0}
+None ((t, n) ∷ ts) = (t ≡ false) × None ts
+
+-- a test with the number n holds, and none before it does
+pub record Gives (n : ℕ) (ts : Tests) : Type 0 where
+  pub before : Tests
+  pub test : Bool
+  pub after : Tests
+  pub split : ts ≡ before ++ ((test, n) ∷ after)
+  pub none : None before
+  pub holds : test ≡ true
+
+past : (before : Tests) (test : Bool) (n : ℕ) (after : Tests) → None before → test ≡ true → first (before ++ ((test, n) ∷ after)) ≡ n
+past [] test n after h e = here test n after e
+past ((t, m) ∷ before) test n after h e = later t m (before ++ ((test, n) ∷ after)) (h .0) ∙ past before test n after (h .1) e
+
+-- a number is given exactly when its test holds and none before it does
+pub gives : (ts : Tests) (n : ℕ) → Gives n ts → first ts ≡ n
+gives ts n g = ap first (g .split) ∙ past (g .before) (g .test) n (g .after) (g .none) (g .holds)
+
+pub given : (ts : Tests) (n : ℕ) → (n ≡ 0 → ⊥) → first ts ≡ n → Gives n ts
+unfolding first
+given [] n ne e = absurd (ne (sym e))
+given ((true, m) ∷ ts) n ne e = record { before = []; test = true; after = ts; split = ap (λ (k : ℕ). (true, k) ∷ ts) e; none = tt; holds = refl }
+given ((false, m) ∷ ts) n ne e =
+    let g = given ts n ne e in
+    record { before = (false, m) ∷ g .before; test = g .test; after = g .after; split = ap (λ (l : Tests). (false, m) ∷ l) (g .split); none = (refl, g .none); holds = g .holds }
+
+-- done is given exactly when no test holds
+pub none-first : (ts : Tests) → None ts → first ts ≡ 0
+unfolding first
+none-first [] h = refl
+none-first ((t, m) ∷ ts) h = later t m ts (h .0) ∙ none-first ts (h .1)
+
+pub first-none : (ts : Tests) → T (positive ts) → first ts ≡ 0 → None ts
+unfolding first
+first-none [] p e = tt
+first-none ((true, m) ∷ ts) p e = absurd (omega (arith, ltb→lt 0 m (both (ltb 0 m) (positive ts) p .0)))
+first-none ((false, m) ∷ ts) p e = (refl, first-none ts (both (ltb 0 m) (positive ts) p .1) e)
+
+-- a refusal leaves what was there, and done leaves what is new
+module _ {S : Type 0} (ts : Tests) (old new : S) where
+  pub refusal-keeps : (n : ℕ) (s : S) → (n ≡ 0 → ⊥) → (n, s) ≡ answered ts old new → s ≡ old
+  unfolding answered left
+  refusal-keeps n s ne e = go (first ts) (ap (λ (o : ℕ × S). o .0) e) (ap (λ (o : ℕ × S). o .1) e)
+    where
+      go : (m : ℕ) → n ≡ m → s ≡ left m old new → s ≡ old
+      go zero p q = absurd (ne p)
+      go (suc m) p q = q
+
+  pub done-makes : (s : S) → (0, s) ≡ answered ts old new → (first ts ≡ 0) × (s ≡ new)
+  unfolding answered left
+  done-makes s e =
+      let z : first ts ≡ 0 = sym (ap (λ (o : ℕ × S). o .0) e) in
+      (z, ap (λ (o : ℕ × S). o .1) e ∙ ap (λ (m : ℕ). left m old new) z)
+
+-- ---- two outcomes that satisfy one statement coincide
+
+nth : List Answer → ℕ → Answer
+nth [] n = Done
+nth (a ∷ rest) zero = a
+nth (a ∷ rest) (suc n) = nth rest n
+
+named : ℕ → Answer
+named = nth (Done ∷ TooLarge ∷ SizesDiffer ∷ WidthWrong ∷ LengthWrong ∷ StraySign ∷ PaddingSet ∷ StepsExceed ∷ DigitWrong ∷ TotalExceeds ∷ NotAFrame ∷ AboveLimit ∷ [])
+
+named-number : (a : Answer) → named (number a) ≡ a
+unfolding named nth
+named-number Done = refl
+named-number TooLarge = refl
+named-number SizesDiffer = refl
+named-number WidthWrong = refl
+named-number LengthWrong = refl
+named-number StraySign = refl
+named-number PaddingSet = refl
+named-number StepsExceed = refl
+named-number DigitWrong = refl
+named-number TotalExceeds = refl
+named-number NotAFrame = refl
+named-number AboveLimit = refl
+
+pub number-same : (a b : Answer) → number a ≡ number b → a ≡ b
+number-same a b e = sym (named-number a) ∙ ap named e ∙ named-number b
+
+-- an outcome is an answer and what is left; a statement is what its number and what is left equal
+pub coincide : {S : Type 0} (means : ℕ × S) (a b : Answer) (s t : S) → (number a, s) ≡ means → (number b, t) ≡ means → (a ≡ b) × (s ≡ t)
+coincide {S = S} means a b s t p q =
+    let e : _≡_ {A = ℕ × S} (number a, s) (number b, t) = p ∙ sym q in
+    (number-same a b (ap (λ (o : ℕ × S). o .0) e), ap (λ (o : ℕ × S). o .1) e)

@@ -1,0 +1,47 @@
+-- The faults of a buffer, a row more. Assumes nothing.
+use mathlib.Core.Path.{_≡_, refl, sym, ap, _∙_}
+use mathlib.Core.Bool.{Bool, true, false, _||_}
+use mathlib.Core.List.{List}
+use Prim.Native.Nat.{ℕ, zero, suc, _+_, _*_, _≤_, _<_}
+use native.Mathlib.Numerals.{add-one}
+use native.Mathlib.Omega.{arith}
+use Rattle.cells.specs.Any.{any}
+use Rattle.cells.proofs.AnyLaws.{any-more, or-yes}
+use Rattle.buffers.specs.Buffer.{planes, wide, unit, sign, cell}
+use Rattle.buffers.specs.Fault.{stray, padded}
+use Rattle.rows.specs.Fault.{strayRow, paddedRow}
+
+-- a test that goes row by row
+module _ (f : ℕ → Bool) where
+  next : (i : ℕ) → any i f ≡ false → f i ≡ false → any (i + 1) f ≡ false
+  unfolding any
+  next i h k = rw (add-one i, h) k
+
+  stop : (i r : ℕ) → i < r → f i ≡ true → true ≡ any r f
+  unfolding any
+  stop i r l k = sym (any-more f (i + 1) r (omega arith) (rw (add-one i) (or-yes (any i f) (f i) k)))
+
+module _ (ws : List ℕ) (c q : ℕ) (e : q ≡ planes c) where
+  pub stray-begin : stray 0 c ws ≡ false
+  unfolding stray any
+  stray-begin = refl
+
+  pub stray-next : (i : ℕ) → stray i c ws ≡ false → strayRow ws (i * (2 * q)) q c ≡ false → stray (i + 1) c ws ≡ false
+  unfolding stray strayRow unit sign wide
+  stray-next i h k = next _ i h (rw e at k)
+
+  pub stray-stop : (i r : ℕ) → i < r → strayRow ws (i * (2 * q)) q c ≡ true → true ≡ stray r c ws
+  unfolding stray strayRow unit sign wide
+  stray-stop i r l k = stop _ i r l (rw e at k)
+
+  pub padded-begin : padded 0 c ws ≡ false
+  unfolding padded any
+  padded-begin = refl
+
+  pub padded-next : (i : ℕ) → padded i c ws ≡ false → paddedRow ws (i * (2 * q)) q c ≡ false → padded (i + 1) c ws ≡ false
+  unfolding padded paddedRow cell unit sign wide
+  padded-next i h k = next _ i h (rw e at k)
+
+  pub padded-stop : (i r : ℕ) → i < r → paddedRow ws (i * (2 * q)) q c ≡ true → true ≡ padded r c ws
+  unfolding padded paddedRow cell unit sign wide
+  padded-stop i r l k = stop _ i r l (rw e at k)

@@ -1,0 +1,79 @@
+-- The tests of a request over two matrices. Assumes nothing.
+use mathlib.Core.Path.{_≡_, refl, sym, ap, _∙_}
+use mathlib.Core.Bool.{Bool, true, false, not, _||_}
+use mathlib.Core.List.{List, [], _∷_, _++_}
+use Prim.Native.Nat.{ℕ, _≤_}
+use native.Mathlib.Omega.{arith}
+use lib.Dec.{T, eqb}
+use lib.ListN.{length}
+use borrow.Author.Tests.{eqb-true, not-false}
+use Rattle.cells.proofs.AnyLaws.{or-left, or-right}
+use Rattle.requests.specs.declared.Size.{Size}
+use Rattle.buffers.specs.Buffer.{words, Legal}
+use Rattle.requests.specs.Answers.{Tests, first}
+use Rattle.requests.specs.Sizes.{over, unfit, faults}
+use Rattle.requests.specs.Pair.{unequal, unfits, pairTests}
+use Rattle.requests.proofs.SizeLaws.{over-rows, over-columns, unfit-long}
+use Rattle.requests.proofs.AnswerLaws.{positive, None, first-none}
+use Rattle.buffers.proofs.BufferLaws.{legal-tests}
+
+pub faults-positive : (s : Size) (ws : List ℕ) → T (positive (faults s ws))
+unfolding faults
+faults-positive s ws = tt
+
+-- no fault: the buffer is legal
+pub faultless : (s : Size) (ws : List ℕ) → unfit s (length ws) ≡ false → first (faults s ws) ≡ 0 → Legal (s .rows) (s .columns) ws
+unfolding faults
+faultless s ws u z =
+    let n : None (faults s ws) = first-none (faults s ws) (faults-positive s ws) z in
+    legal-tests _ _ ws (unfit-long s (length ws) u) (n .0) (n .1 .0)
+
+module _ (x y : Size) (l m n : ℕ) (h : unfits x y l m n ≡ false) where
+  pub fits-a : unfit x l ≡ false
+  unfolding unfits
+  fits-a = or-left (unfit x l) (unfit y m || unfit x n) h
+
+  pub fits-b : unfit y m ≡ false
+  unfolding unfits
+  fits-b = or-left (unfit y m) (unfit x n) (or-right (unfit x l) (unfit y m || unfit x n) h)
+
+  pub fits-out : unfit x n ≡ false
+  unfolding unfits
+  fits-out = or-right (unfit y m) (unfit x n) (or-right (unfit x l) (unfit y m || unfit x n) h)
+
+module _ (x y : Size) (h : unequal x y ≡ false) where
+  pub same-rows : x .rows ≡ y .rows
+  unfolding unequal
+  same-rows = eqb-true _ _ (not-false (eqb (x .rows) (y .rows)) (or-left (not (eqb (x .rows) (y .rows))) (not (eqb (x .columns) (y .columns))) h))
+
+  pub same-columns : x .columns ≡ y .columns
+  unfolding unequal
+  same-columns = eqb-true _ _ (not-false (eqb (x .columns) (y .columns)) (or-right (not (eqb (x .rows) (y .rows))) (not (eqb (x .columns) (y .columns))) h))
+
+-- what no test's holding says
+pub record Ready (x y : Size) (a b : List ℕ) (n : ℕ) : Type 0 where
+  pub rows : x .rows ≤ 1024
+  pub columns : x .columns ≤ 1024
+  pub same : (x .rows ≡ y .rows) × (x .columns ≡ y .columns)
+  pub left : Legal (x .rows) (x .columns) a
+  pub right : Legal (x .rows) (x .columns) b
+  pub room : n ≡ words (x .rows) (x .columns)
+
+pub ready : (x y : Size) (a b : List ℕ) (n : ℕ) → first (pairTests x y a b n) ≡ 0 → Ready x y a b n
+unfolding pairTests faults
+ready x y a b n z =
+    let t : None (pairTests x y a b n) = first-none (pairTests x y a b n) tt z in
+    let small = or-left (over x) (over y) (t .0) in
+    let f = t .1 .1 .0 in
+    let la = unfit-long x (length a) (fits-a x y (length a) (length b) n f) in
+    let lb = unfit-long y (length b) (fits-b x y (length a) (length b) n f) in
+    let er = same-rows x y (t .1 .0) in
+    let ec = same-columns x y (t .1 .0) in
+    record {
+      rows = over-rows x small;
+      columns = over-columns x small;
+      same = (er, ec);
+      left = legal-tests _ _ a la (t .1 .1 .1 .0) (t .1 .1 .1 .1 .0);
+      right = rw (er, ec) (legal-tests _ _ b lb (t .1 .1 .1 .1 .1 .0) (t .1 .1 .1 .1 .1 .1 .0));
+      room = unfit-long x n (fits-out x y (length a) (length b) n f);
+    }

@@ -1,0 +1,4 @@
+pub mod Answers
+pub mod Sizes
+pub mod Single
+pub mod Pair

@@ -1,0 +1,54 @@
+// Two matrices of the same size.
+ghost use mathlib.Core.Path.{_≡_};
+ghost use mathlib.Core.Bool.{false, _||_};
+ghost use Rattle.requests.specs.Answers.{number, first};
+ghost use Rattle.requests.specs.Sizes.{over};
+ghost use Rattle.requests.specs.Pair.{unequal, unfits, pairTests};
+use super::faults::fault;
+use super::sizes::either_over;
+use super::sizes::unfit;
+use crate::Answer;
+use crate::Size;
+use crate::number;
+
+fn unequal(x: Size, y: Size) -> bool
+    ensures { λ r. ⌜ r ≡ unequal x y ⌝ }
+{
+    if x.rows != y.rows {
+        return true;
+    }
+    x.columns != y.columns
+}
+
+fn unfits(x: Size, y: Size, l: usize, m: usize, n: usize) -> bool
+    requires { ⌜ (over x || over y) ≡ false ⌝ }
+    ensures { λ r. ⌜ r ≡ unfits x y l m n ⌝ }
+{
+    if unfit(x, l) {
+        return true;
+    }
+    if unfit(y, m) {
+        return true;
+    }
+    unfit(x, n)
+}
+
+// What is wrong with two matrices and n words for what is made of them.
+pub fn judged(x: Size, y: Size, a: &[u64], b: &[u64], n: usize) -> Answer
+    ensures { λ r. ⌜ number r ≡ first (pairTests x y (now (a .entry)) (now (b .entry)) n) ⌝ }
+{
+    if either_over(x, y) {
+        return Answer::TooLarge;
+    }
+    if unequal(x, y) {
+        return Answer::SizesDiffer;
+    }
+    if unfits(x, y, a.len(), b.len(), n) {
+        return Answer::LengthWrong;
+    }
+    let f = fault(x, a);
+    if number(f) != 0 {
+        return f;
+    }
+    fault(y, b)
+}
