@@ -6,7 +6,7 @@ use Prim.Native.Nat.{ℕ, zero, suc, _+_, _-_, _^_, _≤_, _<_}
 use native.Mathlib.Decide.{decLt}
 use native.Mathlib.Omega.{arith}
 use lib.ListN.{length, getD, set, length-set}
-use lib.Seq.{getD-set-same, getD-set-other, ext-getD}
+use lib.Seq.{getD-set-same, getD-set-other, set-comm, ext-getD}
 use Rattle.cells.specs.Pair.{digit, LegalPair, Holds, WordPair}
 use Rattle.cells.proofs.PairLaws.{holds-cong}
 use Rattle.cells.proofs.EncodeLaws.{same}
@@ -80,6 +80,13 @@ pub made-next : (f : ℕ → ℕ → ℕ) (x q n : ℕ) (old mid : List ℕ) (u 
 made-next f x q n old mid u s l room w M =
     let z : n + 0 ≡ n = omega arith in
     made-more f (λ p t. f (n + p) t) x q n 1 old mid _ (omega arith) (λ p t h. refl) M (made-store (λ p t. f (n + p) t) (x + n) q mid u s (omega arith) (omega arith) (rw z w))
+
+-- unit words first, or pair by pair: where the planes lie two words apart or more the order of stores plays no part
+pub units-first : (old : List ℕ) (x q u v s r : ℕ) → 2 ≤ q
+    → set (set (set (set old x u) (x + 1) v) (x + q) s) (x + q + 1) r ≡ set (set (set (set old x u) (x + q) s) (x + 1) v) (x + 1 + q) r
+units-first old x q u v s r h =
+    let e : x + q + 1 ≡ x + 1 + q = omega arith in
+    ap₂ (λ (l : List ℕ) (k : ℕ). set l k r) (set-comm (set old x u) (x + 1) (x + q) v s (λ d. omega arith)) e
 
 pub made-two : (f : ℕ → ℕ → ℕ) (x q : ℕ) (old : List ℕ) (u s v r : ℕ) → 2 ≤ q → x + q + 1 < length old → WordPair (f 0) u s → WordPair (f 1) v r
     → Made f x q 2 old (set (set (set (set old x u) (x + q) s) (x + 1) v) (x + 1 + q) r)

@@ -6,6 +6,7 @@ ghost use Rattle.cells.specs.Digit.{add3};
 ghost use Rattle.rows.specs.Row.{of2, Made, Readable, InPlace};
 use super::words::load;
 use super::words::store;
+use super::words::store_two;
 use cells::sum::sum;
 
 fn add_one(t: &mut [u64], b: &[u64], q: usize, x: usize, y: usize, z: usize)
@@ -22,8 +23,7 @@ fn add_two(t: &mut [u64], b: &[u64], q: usize, x: usize, y: usize, z: usize)
 {
     let v = sum(load(t, q, y), load(b, q, z));
     let w = sum(load(t, q, y + 1), load(b, q, z + 1));
-    store(t, q, x, v);
-    store(t, q, x + 1, w);
+    store_two(t, q, x, v, w);
 }
 
 // The last pairs, fewer than four: no loop, which would be tested for overlap.
@@ -50,6 +50,10 @@ pub fn add_row(t: &mut [u64], b: &[u64], q: usize, x: usize, y: usize, z: usize)
     requires { ⌜ InPlace q q x y z (now t) (now b) ⌝ }
     ensures { λ _. ⌜ Made (of2 add3 q (now (t .entry)) y (now (b .entry)) z) x q q (now (t .entry)) (now (t .exit)) ⌝ }
 {
+    if q < 4 {
+        add_rest(t, b, q, q, x, y, z);
+        return;
+    }
     let mut j = 0;
     while j + 4 <= q {
         add_two(t, b, q, x + j, y + j, z + j);

@@ -1,6 +1,6 @@
 // A pair of words, read and written: the unit word at one place, the sign word q words later.
 ghost use mathlib.Core.Path.{_≡_};
-ghost use Prim.Native.Nat.{_+_, _<_};
+ghost use Prim.Native.Nat.{_+_, _≤_, _<_};
 ghost use lib.ListN.{length, getD, set};
 use cells::Cells;
 
@@ -20,4 +20,16 @@ pub fn store(t: &mut [u64], q: usize, at: usize, v: Cells)
 {
     t[at] = v.unit;
     t[at + q] = v.sign;
+}
+
+// Two pairs. Unit words come before sign words: only so can the back end join the stores, as the planes may lie one word apart.
+pub fn store_two(t: &mut [u64], q: usize, at: usize, v: Cells, w: Cells)
+    requires { ⌜ (2 ≤ q) × (at + q + 1 < length (now t)) ⌝ }
+    ensures { λ _. ⌜ now (t .exit) ≡ set (set (set (set (now (t .entry)) at (v .unit)) (at + q) (v .sign)) (at + 1) (w .unit)) (at + 1 + q) (w .sign) ⌝ }
+{
+    t[at] = v.unit;
+    t[at + 1] = w.unit;
+    let s = at + q;
+    t[s] = v.sign;
+    t[s + 1] = w.sign;
 }

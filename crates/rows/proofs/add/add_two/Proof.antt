@@ -32,23 +32,17 @@ load-requires-4 c κs = search needs
 sum-requires-2 : tie.Need-sum-requires-2
 sum-requires-2 c κs = (load-legal (c .before .before .before .before .before .before .before .before .before .args .t .now) (c .before .before .before .before .before .before .before .before .before .args .y) (c .before .before .before .before .before .before .before .before .before .args .q) 2 1 (c .before .before .before .before .before .before .before .before .before .args .y + 1) _ _ (c .before .before .before .before .before .before .before .before .before .pre .first .legal) (omega arith) (omega arith) (c .before .load3 .ensures .0) (c .before .load3 .ensures .1), load-legal (c .before .before .before .before .before .before .before .before .before .args .b .now) (c .before .before .before .before .before .before .before .before .before .args .z) (c .before .before .before .before .before .before .before .before .before .args .q) 2 1 (c .before .before .before .before .before .before .before .before .before .args .z + 1) _ _ (c .before .before .before .before .before .before .before .before .before .pre .second .legal) (omega arith) (omega arith) (c .load4 .ensures .0) (c .load4 .ensures .1))
 
-store-requires : tie.Need-store-requires
-store-requires c κs = search needs
-
-add-store : tie.Need-add-store
-add-store c = omega (arith, c .before .before .before .before .before .before .before .before .before .before .before .before .before .before .before .pre .room, c .before .before .before .before .before .before .before .before .before .before .before .before .before .before .before .good .0 .0)
-
-store-requires-2 : tie.Need-store-requires-2
-store-requires-2 c κs = omega (arith, c .before .before .before .store .kept .0, c .before .before .before .before .before .before .before .before .before .before .before .before .before .before .before .pre .room)
+store-two-requires : tie.Need-store-two-requires
+store-two-requires c κs = search needs
 
 same-length : tie.Need-same-length
 same-length c = search needs
 
 returns : tie.Need-returns
 returns c =
-    rw (c .before .before .store2 .ensures, c .before .before .before .before .before .before .store .ensures)
-    (made-two _ (c .before .before .before .before .before .before .before .before .before .before .before .before .before .before .before .before .before .before .args .x) (c .before .before .before .before .before .before .before .before .before .before .before .before .before .before .before .before .before .before .args .q) _ _ _ _ _ (c .before .before .before .before .before .before .before .before .before .before .before .before .before .before .before .before .before .before .pre .fits) (omega (arith, c .before .before .before .before .before .before .before .before .before .before .before .before .before .before .before .before .before .before .pre .room)) (pair2 add3 (c .before .before .before .before .before .before .before .before .before .before .before .before .before .before .before .before .before .before .args .q) (c .before .before .before .before .before .before .before .before .before .before .before .before .before .before .before .before .before .before .args .t .now) (c .before .before .before .before .before .before .before .before .before .before .before .before .before .before .before .before .before .before .args .y) (c .before .before .before .before .before .before .before .before .before .before .before .before .before .before .before .before .before .before .args .y) _ _ (c .before .before .before .before .before .before .before .before .before .before .before .before .before .before .before .before .before .before .args .b .now) (c .before .before .before .before .before .before .before .before .before .before .before .before .before .before .before .before .before .before .args .z) (c .before .before .before .before .before .before .before .before .before .before .before .before .before .before .before .before .before .before .args .z) _ _ 0 _ _ (omega arith) (c .before .before .before .before .before .before .before .before .before .before .before .before .before .before .load .ensures .0) (c .before .before .before .before .before .before .before .before .before .before .before .before .before .before .load .ensures .1) (omega arith) (c .before .before .before .before .before .before .before .before .before .before .before .before .before .load2 .ensures .0) (c .before .before .before .before .before .before .before .before .before .before .before .before .before .load2 .ensures .1) (c .before .before .before .before .before .before .before .before .before .before .before .before .sum .ensures) (omega (arith, c .before .before .before .before .before .before .before .before .before .before .before .before .sum .ok)) (omega (arith, c .before .before .before .before .before .before .before .before .before .before .before .before .sum .ok)))
-    (pair2 add3 (c .before .before .before .before .before .before .before .before .before .before .before .before .before .before .before .before .before .before .args .q) (c .before .before .before .before .before .before .before .before .before .before .before .before .before .before .before .before .before .before .args .t .now) (c .before .before .before .before .before .before .before .before .before .before .before .before .before .before .before .before .before .before .args .y) (c .before .before .before .before .before .before .before .before .before .before .before .before .before .before .before .before .before .before .args .y + 1) _ _ (c .before .before .before .before .before .before .before .before .before .before .before .before .before .before .before .before .before .before .args .b .now) (c .before .before .before .before .before .before .before .before .before .before .before .before .before .before .before .before .before .before .args .z) (c .before .before .before .before .before .before .before .before .before .before .before .before .before .before .before .before .before .before .args .z + 1) _ _ 1 _ _ (omega arith) (c .before .before .before .before .before .before .before .before .before .before .load3 .ensures .0) (c .before .before .before .before .before .before .before .before .before .before .load3 .ensures .1) (omega arith) (c .before .before .before .before .before .before .before .before .before .load4 .ensures .0) (c .before .before .before .before .before .before .before .before .before .load4 .ensures .1) (c .before .before .before .before .before .before .before .before .sum2 .ensures) (omega (arith, c .before .before .before .before .before .before .before .before .sum2 .ok)) (omega (arith, c .before .before .before .before .before .before .before .before .sum2 .ok))))
+    rw (c .before .before .store-two .ensures)
+    (made-two _ (c .before .before .before .before .before .before .before .before .before .before .before .before .before .before .args .x) (c .before .before .before .before .before .before .before .before .before .before .before .before .before .before .args .q) _ _ _ _ _ (c .before .before .before .before .before .before .before .before .before .before .before .before .before .before .pre .fits) (omega (arith, c .before .before .before .before .before .before .before .before .before .before .before .before .before .before .pre .room)) (pair2 add3 (c .before .before .before .before .before .before .before .before .before .before .before .before .before .before .args .q) (c .before .before .before .before .before .before .before .before .before .before .before .before .before .before .args .t .now) (c .before .before .before .before .before .before .before .before .before .before .before .before .before .before .args .y) (c .before .before .before .before .before .before .before .before .before .before .before .before .before .before .args .y) _ _ (c .before .before .before .before .before .before .before .before .before .before .before .before .before .before .args .b .now) (c .before .before .before .before .before .before .before .before .before .before .before .before .before .before .args .z) (c .before .before .before .before .before .before .before .before .before .before .before .before .before .before .args .z) _ _ 0 _ _ (omega arith) (c .before .before .before .before .before .before .before .before .before .before .load .ensures .0) (c .before .before .before .before .before .before .before .before .before .before .load .ensures .1) (omega arith) (c .before .before .before .before .before .before .before .before .before .load2 .ensures .0) (c .before .before .before .before .before .before .before .before .before .load2 .ensures .1) (c .before .before .before .before .before .before .before .before .sum .ensures) (omega (arith, c .before .before .before .before .before .before .before .before .sum .ok)) (omega (arith, c .before .before .before .before .before .before .before .before .sum .ok)))
+    (pair2 add3 (c .before .before .before .before .before .before .before .before .before .before .before .before .before .before .args .q) (c .before .before .before .before .before .before .before .before .before .before .before .before .before .before .args .t .now) (c .before .before .before .before .before .before .before .before .before .before .before .before .before .before .args .y) (c .before .before .before .before .before .before .before .before .before .before .before .before .before .before .args .y + 1) _ _ (c .before .before .before .before .before .before .before .before .before .before .before .before .before .before .args .b .now) (c .before .before .before .before .before .before .before .before .before .before .before .before .before .before .args .z) (c .before .before .before .before .before .before .before .before .before .before .before .before .before .before .args .z + 1) _ _ 1 _ _ (omega arith) (c .before .before .before .before .before .before .load3 .ensures .0) (c .before .before .before .before .before .before .load3 .ensures .1) (omega arith) (c .before .before .before .before .before .load4 .ensures .0) (c .before .before .before .before .before .load4 .ensures .1) (c .before .before .before .before .sum2 .ensures) (omega (arith, c .before .before .before .before .sum2 .ok)) (omega (arith, c .before .before .before .before .sum2 .ok))))
 
 pub add-two-spec : {M : Type 1} → statement M
 add-two-spec =
@@ -62,8 +56,6 @@ add-two-spec =
     add-load-2
     load-requires-4
     sum-requires-2
-    store-requires
-    add-store
-    store-requires-2
+    store-two-requires
     same-length
     returns)

@@ -13,6 +13,15 @@ Inv-loop t₀ b q x y z j₀ t j = (j ≤ q) × Made (of2 sub3 q t₀ y b z) x q
 abbrev μ-loop : tie.MeasureT-loop
 μ-loop t₀ b q x y z j₀ t j = q - j
 
+subtract-rest-requires : tie.Need-subtract-rest-requires Inv-loop μ-loop
+subtract-rest-requires c κs = (omega arith, (c .before .before .before .before .pre))
+
+same-length : tie.Need-same-length Inv-loop μ-loop
+same-length c = c .before .before .subtract-rest .ensures .long
+
+returns : tie.Need-returns Inv-loop μ-loop
+returns c = c .before .before .subtract-rest .ensures
+
 loop-holds : tie.Need-loop-holds Inv-loop μ-loop
 loop-holds c = (omega arith, made-none _ _ _ _)
 
@@ -20,31 +29,31 @@ add-loop : tie.Need-add-loop Inv-loop μ-loop
 add-loop c = omega arith
 
 add-subtract-two : tie.Need-add-subtract-two Inv-loop μ-loop
-add-subtract-two c = omega (arith, c .before .before .before .before .before .pre .first .room, c .before .before .before .before .before .pre .second .room)
+add-subtract-two c = omega (arith, c .before .before .before .before .before .before .pre .first .room, c .before .before .before .before .before .before .pre .second .room)
 
 add-subtract-two-2 : tie.Need-add-subtract-two-2 Inv-loop μ-loop
-add-subtract-two-2 c = omega (arith, c .before .before .before .before .before .pre .first .room, c .before .before .before .before .before .pre .second .room)
+add-subtract-two-2 c = omega (arith, c .before .before .before .before .before .before .pre .first .room, c .before .before .before .before .before .before .pre .second .room)
 
 add-subtract-two-3 : tie.Need-add-subtract-two-3 Inv-loop μ-loop
-add-subtract-two-3 c = omega (arith, c .before .before .before .before .before .pre .first .room, c .before .before .before .before .before .pre .second .room)
+add-subtract-two-3 c = omega (arith, c .before .before .before .before .before .before .pre .first .room, c .before .before .before .before .before .before .pre .second .room)
 
 subtract-two-requires : tie.Need-subtract-two-requires Inv-loop μ-loop
-subtract-two-requires c κs = later (c .before .before .before .before .before .args .q) (c .before .before .before .before .before .args .q) (c .before .before .before .before .before .args .x) (c .before .before .before .before .before .args .y) (c .before .before .before .before .before .args .z) (c .before .before .before .before .before .args .t .now) (c .before .before .before .before .before .args .b .now) (c .before .before .before .before .before .pre) (of2 sub3 (c .before .before .before .before .before .args .q) (c .before .before .before .before .before .args .t .now) (c .before .before .before .before .before .args .y) (c .before .before .before .before .before .args .b .now) (c .before .before .before .before .before .args .z)) (c .before .before .loop .j) _ (c .before .before .loop .inv .1) 2 (omega arith)
+subtract-two-requires c κs = later (c .before .before .before .before .before .before .args .q) (c .before .before .before .before .before .before .args .q) (c .before .before .before .before .before .before .args .x) (c .before .before .before .before .before .before .args .y) (c .before .before .before .before .before .before .args .z) (c .before .before .before .before .before .before .args .t .now) (c .before .before .before .before .before .before .args .b .now) (c .before .before .before .before .before .before .pre) (of2 sub3 (c .before .before .before .before .before .before .args .q) (c .before .before .before .before .before .before .args .t .now) (c .before .before .before .before .before .before .args .y) (c .before .before .before .before .before .before .args .b .now) (c .before .before .before .before .before .before .args .z)) (c .before .before .loop .j) _ (c .before .before .loop .inv .1) 2 (omega arith)
 
 add-i : tie.Need-add-i Inv-loop μ-loop
 add-i c = omega arith
 
 add-subtract-two-4 : tie.Need-add-subtract-two-4 Inv-loop μ-loop
-add-subtract-two-4 c = omega (arith, c .before .before .before .before .before .before .before .before .before .pre .first .room, c .before .before .before .before .before .before .before .before .before .pre .second .room)
+add-subtract-two-4 c = omega (arith, c .before .before .before .before .before .before .before .before .before .before .pre .first .room, c .before .before .before .before .before .before .before .before .before .before .pre .second .room)
 
 add-subtract-two-5 : tie.Need-add-subtract-two-5 Inv-loop μ-loop
-add-subtract-two-5 c = omega (arith, c .before .before .before .before .before .before .before .before .before .pre .first .room, c .before .before .before .before .before .before .before .before .before .pre .second .room)
+add-subtract-two-5 c = omega (arith, c .before .before .before .before .before .before .before .before .before .before .pre .first .room, c .before .before .before .before .before .before .before .before .before .before .pre .second .room)
 
 add-subtract-two-6 : tie.Need-add-subtract-two-6 Inv-loop μ-loop
-add-subtract-two-6 c = omega (arith, c .before .before .before .before .before .before .before .before .before .pre .first .room, c .before .before .before .before .before .before .before .before .before .pre .second .room)
+add-subtract-two-6 c = omega (arith, c .before .before .before .before .before .before .before .before .before .before .pre .first .room, c .before .before .before .before .before .before .before .before .before .before .pre .second .room)
 
 subtract-two-requires-2 : tie.Need-subtract-two-requires-2 Inv-loop μ-loop
-subtract-two-requires-2 c κs = later (c .before .before .before .before .before .before .before .before .before .args .q) (c .before .before .before .before .before .before .before .before .before .args .q) (c .before .before .before .before .before .before .before .before .before .args .x) (c .before .before .before .before .before .before .before .before .before .args .y) (c .before .before .before .before .before .before .before .before .before .args .z) (c .before .before .before .before .before .before .before .before .before .args .t .now) (c .before .before .before .before .before .before .before .before .before .args .b .now) (c .before .before .before .before .before .before .before .before .before .pre) (of2 sub3 (c .before .before .before .before .before .before .before .before .before .args .q) (c .before .before .before .before .before .before .before .before .before .args .t .now) (c .before .before .before .before .before .before .before .before .before .args .y) (c .before .before .before .before .before .before .before .before .before .args .b .now) (c .before .before .before .before .before .before .before .before .before .args .z)) (c .before .before .before .before .before .before .loop .j + 2) _ (next sub3 (c .before .before .before .before .before .before .before .before .before .args .q) (c .before .before .before .before .before .before .before .before .before .args .q) (c .before .before .before .before .before .before .before .before .before .args .x) (c .before .before .before .before .before .before .before .before .before .args .y) (c .before .before .before .before .before .before .before .before .before .args .z) (c .before .before .before .before .before .before .before .before .before .args .t .now) (c .before .before .before .before .before .before .before .before .before .args .b .now) (c .before .before .before .before .before .before .loop .j) 2 _ _ (c .before .before .before .before .before .before .before .before .before .pre) (omega arith) (c .before .before .before .before .before .before .loop .inv .1) (c .before .before .before .subtract-two .ensures)) 2 (omega arith)
+subtract-two-requires-2 c κs = later (c .before .before .before .before .before .before .before .before .before .before .args .q) (c .before .before .before .before .before .before .before .before .before .before .args .q) (c .before .before .before .before .before .before .before .before .before .before .args .x) (c .before .before .before .before .before .before .before .before .before .before .args .y) (c .before .before .before .before .before .before .before .before .before .before .args .z) (c .before .before .before .before .before .before .before .before .before .before .args .t .now) (c .before .before .before .before .before .before .before .before .before .before .args .b .now) (c .before .before .before .before .before .before .before .before .before .before .pre) (of2 sub3 (c .before .before .before .before .before .before .before .before .before .before .args .q) (c .before .before .before .before .before .before .before .before .before .before .args .t .now) (c .before .before .before .before .before .before .before .before .before .before .args .y) (c .before .before .before .before .before .before .before .before .before .before .args .b .now) (c .before .before .before .before .before .before .before .before .before .before .args .z)) (c .before .before .before .before .before .before .loop .j + 2) _ (next sub3 (c .before .before .before .before .before .before .before .before .before .before .args .q) (c .before .before .before .before .before .before .before .before .before .before .args .q) (c .before .before .before .before .before .before .before .before .before .before .args .x) (c .before .before .before .before .before .before .before .before .before .before .args .y) (c .before .before .before .before .before .before .before .before .before .before .args .z) (c .before .before .before .before .before .before .before .before .before .before .args .t .now) (c .before .before .before .before .before .before .before .before .before .before .args .b .now) (c .before .before .before .before .before .before .loop .j) 2 _ _ (c .before .before .before .before .before .before .before .before .before .before .pre) (omega arith) (c .before .before .before .before .before .before .loop .inv .1) (c .before .before .before .subtract-two .ensures)) 2 (omega arith)
 
 add-j : tie.Need-add-j Inv-loop μ-loop
 add-j c = omega arith
@@ -55,28 +64,28 @@ loop-less c = omega arith
 loop-again : tie.Need-loop-again Inv-loop μ-loop
 loop-again c =
     let e : c .before .before .before .before .before .before .before .before .before .loop .j + 4 ≡ c .before .before .before .before .before .before .before .before .before .loop .j + 2 + 2 = omega arith in
-    (omega arith, rw e (next sub3 (c .before .before .before .before .before .before .before .before .before .before .before .before .args .q) (c .before .before .before .before .before .before .before .before .before .before .before .before .args .q) (c .before .before .before .before .before .before .before .before .before .before .before .before .args .x) (c .before .before .before .before .before .before .before .before .before .before .before .before .args .y) (c .before .before .before .before .before .before .before .before .before .before .before .before .args .z) (c .before .before .before .before .before .before .before .before .before .before .before .before .args .t .now) (c .before .before .before .before .before .before .before .before .before .before .before .before .args .b .now) (c .before .before .before .before .before .before .before .before .before .loop .j + 2) 2 _ _ (c .before .before .before .before .before .before .before .before .before .before .before .before .pre) (omega arith) (next sub3 (c .before .before .before .before .before .before .before .before .before .before .before .before .args .q) (c .before .before .before .before .before .before .before .before .before .before .before .before .args .q) (c .before .before .before .before .before .before .before .before .before .before .before .before .args .x) (c .before .before .before .before .before .before .before .before .before .before .before .before .args .y) (c .before .before .before .before .before .before .before .before .before .before .before .before .args .z) (c .before .before .before .before .before .before .before .before .before .before .before .before .args .t .now) (c .before .before .before .before .before .before .before .before .before .before .before .before .args .b .now) (c .before .before .before .before .before .before .before .before .before .loop .j) 2 _ _ (c .before .before .before .before .before .before .before .before .before .before .before .before .pre) (omega arith) (c .before .before .before .before .before .before .before .before .before .loop .inv .1) (c .before .before .before .before .before .before .subtract-two .ensures)) (c .before .before .subtract-two2 .ensures)))
+    (omega arith, rw e (next sub3 (c .before .before .before .before .before .before .before .before .before .before .before .before .before .args .q) (c .before .before .before .before .before .before .before .before .before .before .before .before .before .args .q) (c .before .before .before .before .before .before .before .before .before .before .before .before .before .args .x) (c .before .before .before .before .before .before .before .before .before .before .before .before .before .args .y) (c .before .before .before .before .before .before .before .before .before .before .before .before .before .args .z) (c .before .before .before .before .before .before .before .before .before .before .before .before .before .args .t .now) (c .before .before .before .before .before .before .before .before .before .before .before .before .before .args .b .now) (c .before .before .before .before .before .before .before .before .before .loop .j + 2) 2 _ _ (c .before .before .before .before .before .before .before .before .before .before .before .before .before .pre) (omega arith) (next sub3 (c .before .before .before .before .before .before .before .before .before .before .before .before .before .args .q) (c .before .before .before .before .before .before .before .before .before .before .before .before .before .args .q) (c .before .before .before .before .before .before .before .before .before .before .before .before .before .args .x) (c .before .before .before .before .before .before .before .before .before .before .before .before .before .args .y) (c .before .before .before .before .before .before .before .before .before .before .before .before .before .args .z) (c .before .before .before .before .before .before .before .before .before .before .before .before .before .args .t .now) (c .before .before .before .before .before .before .before .before .before .before .before .before .before .args .b .now) (c .before .before .before .before .before .before .before .before .before .loop .j) 2 _ _ (c .before .before .before .before .before .before .before .before .before .before .before .before .before .pre) (omega arith) (c .before .before .before .before .before .before .before .before .before .loop .inv .1) (c .before .before .before .before .before .before .subtract-two .ensures)) (c .before .before .subtract-two2 .ensures)))
 
 sub-subtract-rest : tie.Need-sub-subtract-rest Inv-loop μ-loop
 sub-subtract-rest c = omega arith
 
 add-subtract-rest : tie.Need-add-subtract-rest Inv-loop μ-loop
-add-subtract-rest c = omega (arith, c .before .before .before .before .before .pre .first .room, c .before .before .before .before .before .pre .second .room)
+add-subtract-rest c = omega (arith, c .before .before .before .before .before .before .pre .first .room, c .before .before .before .before .before .before .pre .second .room)
 
 add-subtract-rest-2 : tie.Need-add-subtract-rest-2 Inv-loop μ-loop
-add-subtract-rest-2 c = omega (arith, c .before .before .before .before .before .pre .first .room, c .before .before .before .before .before .pre .second .room)
+add-subtract-rest-2 c = omega (arith, c .before .before .before .before .before .before .pre .first .room, c .before .before .before .before .before .before .pre .second .room)
 
 add-subtract-rest-3 : tie.Need-add-subtract-rest-3 Inv-loop μ-loop
-add-subtract-rest-3 c = omega (arith, c .before .before .before .before .before .pre .first .room, c .before .before .before .before .before .pre .second .room)
+add-subtract-rest-3 c = omega (arith, c .before .before .before .before .before .before .pre .first .room, c .before .before .before .before .before .before .pre .second .room)
 
-subtract-rest-requires : tie.Need-subtract-rest-requires Inv-loop μ-loop
-subtract-rest-requires c κs = (omega arith, later (c .before .before .before .before .before .args .q) (c .before .before .before .before .before .args .q) (c .before .before .before .before .before .args .x) (c .before .before .before .before .before .args .y) (c .before .before .before .before .before .args .z) (c .before .before .before .before .before .args .t .now) (c .before .before .before .before .before .args .b .now) (c .before .before .before .before .before .pre) (of2 sub3 (c .before .before .before .before .before .args .q) (c .before .before .before .before .before .args .t .now) (c .before .before .before .before .before .args .y) (c .before .before .before .before .before .args .b .now) (c .before .before .before .before .before .args .z)) (c .before .before .loop .j) _ (c .before .before .loop .inv .1) (c .before .before .before .before .before .args .q - c .before .before .loop .j) (omega arith))
+subtract-rest-requires-2 : tie.Need-subtract-rest-requires-2 Inv-loop μ-loop
+subtract-rest-requires-2 c κs = (omega arith, later (c .before .before .before .before .before .before .args .q) (c .before .before .before .before .before .before .args .q) (c .before .before .before .before .before .before .args .x) (c .before .before .before .before .before .before .args .y) (c .before .before .before .before .before .before .args .z) (c .before .before .before .before .before .before .args .t .now) (c .before .before .before .before .before .before .args .b .now) (c .before .before .before .before .before .before .pre) (of2 sub3 (c .before .before .before .before .before .before .args .q) (c .before .before .before .before .before .before .args .t .now) (c .before .before .before .before .before .before .args .y) (c .before .before .before .before .before .before .args .b .now) (c .before .before .before .before .before .before .args .z)) (c .before .before .loop .j) _ (c .before .before .loop .inv .1) (c .before .before .before .before .before .before .args .q - c .before .before .loop .j) (omega arith))
 
-same-length : tie.Need-same-length Inv-loop μ-loop
-same-length c = c .before .before .subtract-rest .ensures .long ∙ c .before .before .before .before .before .loop .inv .1 .long
+same-length-2 : tie.Need-same-length-2 Inv-loop μ-loop
+same-length-2 c = c .before .before .subtract-rest2 .ensures .long ∙ c .before .before .before .before .before .loop .inv .1 .long
 
-returns : tie.Need-returns Inv-loop μ-loop
-returns c = last sub3 (c .before .before .before .before .before .before .before .before .args .q) (c .before .before .before .before .before .before .before .before .args .x) (c .before .before .before .before .before .before .before .before .args .y) (c .before .before .before .before .before .before .before .before .args .z) (c .before .before .before .before .before .before .before .before .args .t .now) (c .before .before .before .before .before .before .before .before .args .b .now) (c .before .before .before .before .before .loop .j) _ _ (c .before .before .before .before .before .before .before .before .pre) (omega arith) (c .before .before .before .before .before .loop .inv .1) (c .before .before .subtract-rest .ensures)
+returns-2 : tie.Need-returns-2 Inv-loop μ-loop
+returns-2 c = last sub3 (c .before .before .before .before .before .before .before .before .before .args .q) (c .before .before .before .before .before .before .before .before .before .args .x) (c .before .before .before .before .before .before .before .before .before .args .y) (c .before .before .before .before .before .before .before .before .before .args .z) (c .before .before .before .before .before .before .before .before .before .args .t .now) (c .before .before .before .before .before .before .before .before .before .args .b .now) (c .before .before .before .before .before .loop .j) _ _ (c .before .before .before .before .before .before .before .before .before .pre) (omega arith) (c .before .before .before .before .before .loop .inv .1) (c .before .before .subtract-rest2 .ensures)
 
 pub subtract-row-spec : {M : Type 1} → statement M
 subtract-row-spec =
@@ -84,6 +93,9 @@ subtract-row-spec =
     (tie.spec
     Inv-loop
     μ-loop
+    subtract-rest-requires
+    same-length
+    returns
     loop-holds
     add-loop
     add-subtract-two
@@ -102,6 +114,6 @@ subtract-row-spec =
     add-subtract-rest
     add-subtract-rest-2
     add-subtract-rest-3
-    subtract-rest-requires
-    same-length
-    returns)
+    subtract-rest-requires-2
+    same-length-2
+    returns-2)
