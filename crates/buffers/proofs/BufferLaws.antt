@@ -55,7 +55,7 @@ getD-joined (suc n) w f h (suc i) k l m =
     rw e (getD-append-add (f 0) (joined n (λ i. f (suc i))) (i * w + k) 0 ∙ getD-joined n w (λ i. f (suc i)) (λ i. h (suc i)) i k (omega arith) m)
 
 -- what holds of place k of each row i holds of each place
-by-row : (P : ℕ → Type 0) (r w : ℕ) → ((i k : ℕ) → i < r → k < w → P (i * w + k)) → (n : ℕ) → n < r * w → P n
+pub by-row : (P : ℕ → Type 0) (r w : ℕ) → ((i k : ℕ) → i < r → k < w → P (i * w + k)) → (n : ℕ) → n < r * w → P n
 by-row P r w h n l =
     ⊎-elim (λ z. absurd (let e : r * w ≡ 0 = ap (λ (x : ℕ). r * x) z ∙ mul-zero r in omega arith))
     (λ p. subst P (div-add-mod' n w) (h (n / w) (n % w) (div-lt-iff-lt-mul p .1 l) (mod-lt n p))) (eq-zero-or-pos w)

@@ -6,7 +6,8 @@ use native.Mathlib.Omega.{arith}
 use mathlib.Core.List.{List}
 use lib.ListN.{getD}
 use Rattle.cells.specs.Bit.{bit}
-use Rattle.buffers.specs.Buffer.{planes, wide, words, bitAt}
+use Rattle.cells.proofs.BitLaws.{bit-lt}
+use Rattle.buffers.specs.Buffer.{planes, wide, words, bitAt, unit, sign, cell}
 
 pub planes-le : (c : ℕ) → c ≤ 1024 → planes c ≤ 16
 unfolding planes
@@ -47,3 +48,21 @@ bitAt-word ws x p t l =
     let d : (64 * p + t) / 64 ≡ p = omega arith in
     let m : (64 * p + t) % 64 ≡ t = omega arith in
     rw (d, m)
+
+-- bits and cells of any buffer, at any place
+pub bitAt-lt : (ws : List ℕ) (x j : ℕ) → bitAt ws x j < 2
+unfolding bitAt
+bitAt-lt ws x j = bit-lt (getD ws (x + j / 64) 0) (j % 64)
+
+module _ (c : ℕ) (ws : List ℕ) (i j : ℕ) where
+  pub unit-small : unit c ws i j < 2
+  unfolding unit
+  unit-small = bitAt-lt ws (i * wide c) j
+
+  pub sign-small : sign c ws i j < 2
+  unfolding sign
+  sign-small = bitAt-lt ws (i * wide c + planes c) j
+
+  pub cell-lt : cell c ws i j < 3
+  unfolding cell
+  cell-lt = omega (arith, unit-small, sign-small)

@@ -14,13 +14,10 @@ use Rattle.cells.proofs.WordLaws.{ext, bit-shr, bit-mod, bit-high, bit-shl-low,
 use Rattle.cells.proofs.MaskLaws.{low-in, low-out}
 use Rattle.cells.proofs.PairLaws.{cases}
 use Rattle.buffers.specs.Buffer.{bitAt}
+use Rattle.buffers.proofs.SizeLaws.{bitAt-lt}
 use Rattle.rows.specs.Row.{LegalRow}
 use Rattle.rows.specs.Tally.{column}
 use Rattle.rows.specs.Block.{digitBits}
-
-bitAt-lt : (ws : List ℕ) (x j : ℕ) → bitAt ws x j < 2
-unfolding bitAt
-bitAt-lt ws x j = bit-lt (getD ws (x + j / 64) 0) (j % 64)
 
 -- the places of a mask of w bits keep their bits
 masked-bit : (v w i : ℕ) → i < w → bit (bitAnd v (2 ^ w - 1)) i ≡ bit v i

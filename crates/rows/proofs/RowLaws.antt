@@ -258,6 +258,22 @@ written-next f x n old mid v room e W = record {
         let d : k ≡ n = omega arith in
         rw d (getD-set-same mid (x + n) v 0 room ∙ e)
 
+-- n words, and then m words more
+pub written-more : (f g : ℕ → ℕ) (x n m : ℕ) (old mid new : List ℕ) → ((k : ℕ) → k < m → g k ≡ f (n + k)) → Written f x n old mid → Written g (x + n) m mid new → Written f x (n + m) old new
+written-more f g x n m old mid new same W N = record {
+  long = N .long ∙ W .long;
+  written = λ k l. go k l (decLt k n);
+  before = λ k l. N .before k (omega arith) ∙ W .before k l;
+  after = λ k l. N .after k (omega arith) ∙ W .after k (omega arith);
+}
+  where
+    go : (k : ℕ) → k < n + m → Dec (k < n) → getD new (x + k) 0 ≡ f k
+    go k l (yes h) = N .before (x + k) (omega arith) ∙ W .written k h
+    go k l (no h) =
+        let a : x + k ≡ x + n + (k - n) = omega arith in
+        let b : n + (k - n) ≡ k = omega arith in
+        ap (λ (i : ℕ). getD new i 0) a ∙ N .written (k - n) (omega arith) ∙ same (k - n) (omega arith) ∙ ap f b
+
 pub written-one : (f : ℕ → ℕ) (x n : ℕ) (old new new′ : List ℕ) → Written f x n old new → Written f x n old new′ → new ≡ new′
 written-one f x n old new new′ W N = ext-getD 0 new new′ (W .long ∙ sym (N .long)) (λ k l. go k (decLt k x) (decLt k (x + n)))
   where

@@ -1,0 +1,7 @@
+-- Laws that belong to no one function, for this crate and those above it.
+pub mod GatherLaws
+pub mod PackLaws
+pub mod UnpackLaws
+pub mod ScalingLaws
+pub mod TransposeLaws
+pub mod TallyLaws

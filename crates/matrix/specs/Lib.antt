@@ -1,0 +1,11 @@
+pub mod Unpacked
+pub mod Gathered
+pub mod Check
+pub mod Pack
+pub mod Unpack
+pub mod Sum
+pub mod Difference
+pub mod Negation
+pub mod Scaling
+pub mod Transpose
+pub mod Tally

@@ -1,0 +1,12 @@
+-- What `negation` answers and leaves. Assumes nothing.
+use mathlib.Core.List.{List}
+use Prim.Native.Nat.{ℕ}
+use lib.ListN.{length}
+use Rattle.cells.specs.Digit.{neg3}
+use Rattle.buffers.specs.Buffer.{cell, encode}
+use Rattle.requests.specs.declared.Size.{Size}
+use Rattle.requests.specs.Answers.{answered}
+use Rattle.requests.specs.Single.{singleTests}
+
+unfoldable pub negationMeans : Size → List ℕ → List ℕ → ℕ × List ℕ
+negationMeans s a out = answered (singleTests s s a (length out)) out (encode (s .rows) (s .columns) (λ i j. neg3 (cell (s .columns) a i j)))

@@ -1,0 +1,15 @@
+-- What `transpose` answers and leaves. Assumes nothing.
+use mathlib.Core.List.{List}
+use Prim.Native.Nat.{ℕ}
+use lib.ListN.{length}
+use Rattle.buffers.specs.Buffer.{cell, encode}
+use Rattle.requests.specs.declared.Size.{Size}
+use Rattle.requests.specs.Answers.{answered}
+use Rattle.requests.specs.Single.{singleTests}
+
+-- rows for columns
+abbrev pub turned : Size → Size
+turned s = record { rows = s .columns; columns = s .rows }
+
+unfoldable pub transposeMeans : Size → List ℕ → List ℕ → ℕ × List ℕ
+transposeMeans s a out = answered (singleTests s (turned s) a (length out)) out (encode (s .columns) (s .rows) (λ i j. cell (s .columns) a j i))

@@ -1,0 +1,22 @@
+// The legality check.
+ghost use mathlib.Core.Path.{_≡_};
+ghost use Rattle.requests.specs.Answers.{number};
+ghost use Rattle.matrix.specs.Check.{checkMeans};
+use requests::Answer;
+use requests::Size;
+use requests::faults::fault;
+use requests::sizes::over;
+use requests::sizes::unfit;
+
+// Whether a buffer is a matrix of this size.
+pub fn check(s: Size, a: &[u64]) -> Answer
+    ensures { λ r. ⌜ number r ≡ checkMeans s (now (a .entry)) ⌝ }
+{
+    if over(s) {
+        return Answer::TooLarge;
+    }
+    if unfit(s, a.len()) {
+        return Answer::LengthWrong;
+    }
+    fault(s, a)
+}

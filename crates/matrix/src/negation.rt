@@ -1,0 +1,40 @@
+// The negative of a matrix.
+ghost use mathlib.Core.Path.{_≡_};
+ghost use Prim.Native.Nat.{ℕ, _≤_};
+ghost use lib.ListN.{length};
+ghost use Rattle.cells.specs.Digit.{neg3};
+ghost use Rattle.buffers.specs.Buffer.{words, cell, Legal, encode};
+ghost use Rattle.requests.specs.Answers.{number};
+ghost use Rattle.matrix.specs.Negation.{negationMeans};
+use buffers::planes::planes;
+use requests::Answer;
+use requests::Size;
+use requests::number;
+use requests::single::judged;
+
+fn negation_rows(r: usize, c: usize, a: &[u64], out: &mut [u64])
+    requires { ⌜ (r ≤ 1024) × (c ≤ 1024) × Legal r c (now a) × (length (now out) ≡ words r c) ⌝ }
+    ensures { λ _. ⌜ now (out .exit) ≡ encode r c (λ i j. neg3 (cell c (now (a .entry)) i j)) ⌝ }
+{
+    let q = planes(c);
+    let w = 2 * q;
+    let mut i = 0;
+    while i < r {
+        let x = i * w;
+        rows::negation::negation(out, a, q, x, x);
+        i += 1;
+    }
+}
+
+pub fn negation(s: Size, a: &[u64], out: &mut [u64]) -> Answer
+    ensures { λ r. ⌜ (number r, now (out .exit)) ≡ negationMeans s (now (a .entry)) (now (out .entry)) ⌝ }
+{
+    let f = judged(s, s, a, out.len());
+    if number(f) != 0 {
+        return f;
+    }
+    let r = s.rows as usize;
+    let c = s.columns as usize;
+    negation_rows(r, c, a, out);
+    Answer::Done
+}
