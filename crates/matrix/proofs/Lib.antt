@@ -5,3 +5,9 @@ pub mod UnpackLaws
 pub mod ScalingLaws
 pub mod TransposeLaws
 pub mod TallyLaws
+pub mod Outcomes
+pub mod Demand1
+pub mod FieldLaws
+pub mod RoundTrips
+pub mod Demand2
+pub mod Impostors

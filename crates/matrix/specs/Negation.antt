@@ -8,5 +8,8 @@ use Rattle.requests.specs.declared.Size.{Size}
 use Rattle.requests.specs.Answers.{answered}
 use Rattle.requests.specs.Single.{singleTests}
 
+unfoldable pub negationOf : ℕ → ℕ → List ℕ → List ℕ
+negationOf r c a = encode r c (λ i j. neg3 (cell c a i j))
+
 unfoldable pub negationMeans : Size → List ℕ → List ℕ → ℕ × List ℕ
-negationMeans s a out = answered (singleTests s s a (length out)) out (encode (s .rows) (s .columns) (λ i j. neg3 (cell (s .columns) a i j)))
+negationMeans s a out = answered (singleTests s s a (length out)) out (negationOf (s .rows) (s .columns) a)

@@ -10,9 +10,12 @@ use Rattle.requests.specs.declared.Size.{Size}
 use Rattle.requests.specs.Answers.{Tests, answered}
 use Rattle.requests.specs.Sizes.{over, unfit, faults}
 
+unfoldable pub scalingOf : ℕ → ℕ → ℕ → List ℕ → List ℕ
+scalingOf d r c a = encode r c (λ i j. mul3 (cell c a i j) d)
+
 -- n is how many words there are for the result
 unfoldable pub scalingTests : Size → ℕ → List ℕ → ℕ → Tests
 scalingTests s d a n = (over s, 1) ∷ (unfit s (length a) || unfit s n, 4) ∷ (ltb 2 d, 8) ∷ faults s a
 
 unfoldable pub scalingMeans : Size → ℕ → List ℕ → List ℕ → ℕ × List ℕ
-scalingMeans s d a out = answered (scalingTests s d a (length out)) out (encode (s .rows) (s .columns) (λ i j. mul3 (cell (s .columns) a i j) d))
+scalingMeans s d a out = answered (scalingTests s d a (length out)) out (scalingOf d (s .rows) (s .columns) a)

@@ -8,7 +8,8 @@ use Rattle.requests.specs.declared.Size.{Size}
 use Rattle.requests.specs.Answers.{answered}
 use Rattle.requests.specs.Pair.{pairTests}
 
+unfoldable pub sumOf : ℕ → ℕ → List ℕ → List ℕ → List ℕ
+sumOf r c a b = encode r c (λ i j. add3 (cell c a i j) (cell c b i j))
+
 unfoldable pub sumMeans : Size → Size → List ℕ → List ℕ → List ℕ → ℕ × List ℕ
-sumMeans x y a b out =
-    answered (pairTests x y a b (length out)) out
-    (encode (x .rows) (x .columns) (λ i j. add3 (cell (x .columns) a i j) (cell (x .columns) b i j)))
+sumMeans x y a b out = answered (pairTests x y a b (length out)) out (sumOf (x .rows) (x .columns) a b)

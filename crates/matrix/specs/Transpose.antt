@@ -11,5 +11,8 @@ use Rattle.requests.specs.Single.{singleTests}
 abbrev pub turned : Size → Size
 turned s = record { rows = s .columns; columns = s .rows }
 
+unfoldable pub transposeOf : ℕ → ℕ → List ℕ → List ℕ
+transposeOf r c a = encode c r (λ i j. cell c a j i)
+
 unfoldable pub transposeMeans : Size → List ℕ → List ℕ → ℕ × List ℕ
-transposeMeans s a out = answered (singleTests s (turned s) a (length out)) out (encode (s .columns) (s .rows) (λ i j. cell (s .columns) a j i))
+transposeMeans s a out = answered (singleTests s (turned s) a (length out)) out (transposeOf (s .rows) (s .columns) a)

@@ -9,9 +9,12 @@ use Rattle.requests.specs.Answers.{Tests, answered}
 use Rattle.requests.specs.Sizes.{over, unfit, faults}
 use Rattle.matrix.specs.Unpacked.{bytes, unlike}
 
+unfoldable pub unpackOf : ℕ → ℕ → List ℕ → List ℕ
+unpackOf r c a = bytes r c (cell c a)
+
 -- n is how many bytes there are for the result
 unfoldable pub unpackTests : Size → List ℕ → ℕ → Tests
 unpackTests s a n = (over s, 1) ∷ (unfit s (length a) || unlike s n, 4) ∷ faults s a
 
 unfoldable pub unpackMeans : Size → List ℕ → List ℕ → ℕ × List ℕ
-unpackMeans s a out = answered (unpackTests s a (length out)) out (bytes (s .rows) (s .columns) (cell (s .columns) a))
+unpackMeans s a out = answered (unpackTests s a (length out)) out (unpackOf (s .rows) (s .columns) a)

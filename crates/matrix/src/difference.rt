@@ -2,10 +2,9 @@
 ghost use mathlib.Core.Path.{_≡_};
 ghost use Prim.Native.Nat.{ℕ, _≤_};
 ghost use lib.ListN.{length};
-ghost use Rattle.cells.specs.Digit.{sub3};
-ghost use Rattle.buffers.specs.Buffer.{words, cell, Legal, encode};
+ghost use Rattle.buffers.specs.Buffer.{words, Legal};
 ghost use Rattle.requests.specs.Answers.{number};
-ghost use Rattle.matrix.specs.Difference.{differenceMeans};
+ghost use Rattle.matrix.specs.Difference.{differenceOf, differenceMeans};
 use buffers::planes::planes;
 use requests::Answer;
 use requests::Size;
@@ -14,7 +13,7 @@ use requests::pair::judged;
 
 fn difference_rows(r: usize, c: usize, a: &[u64], b: &[u64], out: &mut [u64])
     requires { ⌜ (r ≤ 1024) × (c ≤ 1024) × Legal r c (now a) × Legal r c (now b) × (length (now out) ≡ words r c) ⌝ }
-    ensures { λ _. ⌜ now (out .exit) ≡ encode r c (λ i j. sub3 (cell c (now (a .entry)) i j) (cell c (now (b .entry)) i j)) ⌝ }
+    ensures { λ _. ⌜ now (out .exit) ≡ differenceOf r c (now (a .entry)) (now (b .entry)) ⌝ }
 {
     let q = planes(c);
     let w = 2 * q;

@@ -2,10 +2,9 @@
 ghost use mathlib.Core.Path.{_≡_};
 ghost use Prim.Native.Nat.{ℕ, _≤_};
 ghost use lib.ListN.{length};
-ghost use Rattle.cells.specs.Digit.{neg3};
-ghost use Rattle.buffers.specs.Buffer.{words, cell, Legal, encode};
+ghost use Rattle.buffers.specs.Buffer.{words, Legal};
 ghost use Rattle.requests.specs.Answers.{number};
-ghost use Rattle.matrix.specs.Negation.{negationMeans};
+ghost use Rattle.matrix.specs.Negation.{negationOf, negationMeans};
 use buffers::planes::planes;
 use requests::Answer;
 use requests::Size;
@@ -14,7 +13,7 @@ use requests::single::judged;
 
 fn negation_rows(r: usize, c: usize, a: &[u64], out: &mut [u64])
     requires { ⌜ (r ≤ 1024) × (c ≤ 1024) × Legal r c (now a) × (length (now out) ≡ words r c) ⌝ }
-    ensures { λ _. ⌜ now (out .exit) ≡ encode r c (λ i j. neg3 (cell c (now (a .entry)) i j)) ⌝ }
+    ensures { λ _. ⌜ now (out .exit) ≡ negationOf r c (now (a .entry)) ⌝ }
 {
     let q = planes(c);
     let w = 2 * q;

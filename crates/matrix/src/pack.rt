@@ -7,13 +7,13 @@ ghost use lib.ListN.{length, getD};
 ghost use Rattle.cells.specs.Any.{any};
 ghost use Rattle.cells.specs.Bit.{wordOf};
 ghost use Rattle.cells.specs.Digit.{unitOf, signOf};
-ghost use Rattle.buffers.specs.Buffer.{planes, words, encode};
+ghost use Rattle.buffers.specs.Buffer.{planes, words};
 ghost use Rattle.requests.specs.Answers.{number, first};
 ghost use Rattle.requests.specs.Sizes.{over, unfit};
 ghost use Rattle.rows.specs.Row.{Made};
 ghost use Rattle.matrix.specs.Gathered.{upTo};
-ghost use Rattle.matrix.specs.Unpacked.{byteAt, unlike};
-ghost use Rattle.matrix.specs.Pack.{packTests, packMeans};
+ghost use Rattle.matrix.specs.Unpacked.{unlike};
+ghost use Rattle.matrix.specs.Pack.{packOf, packTests, packMeans};
 use buffers::planes::planes;
 use buffers::planes::real;
 use cells::Cells;
@@ -114,7 +114,7 @@ fn pack_row(cells: &[u8], out: &mut [u64], c: usize, from: usize, x: usize, q: u
 
 fn pack_rows(r: usize, c: usize, cells: &[u8], out: &mut [u64])
     requires { ⌜ (r ≤ 1024) × (c ≤ 1024) × (length (now cells) ≡ r * c) × (length (now out) ≡ words r c) × ((k : ℕ) → getD (now cells) k 0 < 3) ⌝ }
-    ensures { λ _. ⌜ now (out .exit) ≡ encode r c (byteAt c (now (cells .entry))) ⌝ }
+    ensures { λ _. ⌜ now (out .exit) ≡ packOf r c (now (cells .entry)) ⌝ }
 {
     let q = planes(c);
     let w = 2 * q;

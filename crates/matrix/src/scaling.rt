@@ -2,10 +2,9 @@
 ghost use mathlib.Core.Path.{_≡_};
 ghost use Prim.Native.Nat.{ℕ, _≤_, _<_};
 ghost use lib.ListN.{length};
-ghost use Rattle.cells.specs.Digit.{mul3};
-ghost use Rattle.buffers.specs.Buffer.{words, cell, Legal, encode};
+ghost use Rattle.buffers.specs.Buffer.{words, Legal};
 ghost use Rattle.requests.specs.Answers.{number, first};
-ghost use Rattle.matrix.specs.Scaling.{scalingTests, scalingMeans};
+ghost use Rattle.matrix.specs.Scaling.{scalingOf, scalingTests, scalingMeans};
 use buffers::planes::planes;
 use requests::Answer;
 use requests::Size;
@@ -31,7 +30,7 @@ fn judged(s: Size, d: u8, a: &[u64], n: usize) -> Answer
 
 fn scaling_rows(r: usize, c: usize, d: u64, a: &[u64], out: &mut [u64])
     requires { ⌜ (r ≤ 1024) × (c ≤ 1024) × (d < 3) × Legal r c (now a) × (length (now out) ≡ words r c) ⌝ }
-    ensures { λ _. ⌜ now (out .exit) ≡ encode r c (λ i j. mul3 (cell c (now (a .entry)) i j) d) ⌝ }
+    ensures { λ _. ⌜ now (out .exit) ≡ scalingOf d r c (now (a .entry)) ⌝ }
 {
     let q = planes(c);
     let w = 2 * q;

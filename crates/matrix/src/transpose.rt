@@ -3,11 +3,11 @@ ghost use mathlib.Core.Path.{_≡_};
 ghost use Prim.Native.Nat.{ℕ, _+_, _-_, _*_, _≤_, _<_, min};
 ghost use lib.ListN.{length, getD};
 ghost use Rattle.cells.specs.Bit.{bit, wordOf};
-ghost use Rattle.buffers.specs.Buffer.{planes, words, cell, Legal, encode};
+ghost use Rattle.buffers.specs.Buffer.{planes, words, cell, Legal};
 ghost use Rattle.requests.specs.Answers.{number};
 ghost use Rattle.rows.specs.Row.{Made};
 ghost use Rattle.matrix.specs.Gathered.{upTo};
-ghost use Rattle.matrix.specs.Transpose.{transposeMeans};
+ghost use Rattle.matrix.specs.Transpose.{transposeOf, transposeMeans};
 use buffers::planes::planes;
 use buffers::planes::real;
 use cells::Cells;
@@ -57,7 +57,7 @@ fn transpose_row(r: usize, c: usize, a: &[u64], out: &mut [u64], j: usize, x: us
 
 fn transpose_rows(r: usize, c: usize, a: &[u64], out: &mut [u64])
     requires { ⌜ (r ≤ 1024) × (c ≤ 1024) × Legal r c (now a) × (length (now out) ≡ words c r) ⌝ }
-    ensures { λ _. ⌜ now (out .exit) ≡ encode c r (λ i j. cell c (now (a .entry)) j i) ⌝ }
+    ensures { λ _. ⌜ now (out .exit) ≡ transposeOf r c (now (a .entry)) ⌝ }
 {
     let q = planes(r);
     let w = 2 * q;

@@ -4,13 +4,13 @@ ghost use mathlib.Core.Bool.{false, _||_};
 ghost use Prim.Native.Nat.{ℕ, _+_, _*_, _≤_, _<_};
 ghost use lib.ListN.{length};
 ghost use Rattle.cells.specs.Pair.{digit};
-ghost use Rattle.buffers.specs.Buffer.{planes, cell, Legal};
+ghost use Rattle.buffers.specs.Buffer.{planes, Legal};
 ghost use Rattle.requests.specs.Answers.{number, first};
 ghost use Rattle.requests.specs.Sizes.{over, unfit};
 ghost use Rattle.rows.specs.Row.{Written};
 ghost use Rattle.rows.specs.Tally.{column};
-ghost use Rattle.matrix.specs.Unpacked.{bytes, unlike};
-ghost use Rattle.matrix.specs.Unpack.{unpackTests, unpackMeans};
+ghost use Rattle.matrix.specs.Unpacked.{unlike};
+ghost use Rattle.matrix.specs.Unpack.{unpackOf, unpackTests, unpackMeans};
 use super::pack::unlike;
 use buffers::planes::planes;
 use buffers::planes::real;
@@ -75,7 +75,7 @@ fn unpack_row(a: &[u64], out: &mut [u8], c: usize, to: usize, x: usize, q: usize
 
 fn unpack_rows(r: usize, c: usize, a: &[u64], out: &mut [u8])
     requires { ⌜ (r ≤ 1024) × (c ≤ 1024) × Legal r c (now a) × (length (now out) ≡ r * c) ⌝ }
-    ensures { λ _. ⌜ now (out .exit) ≡ bytes r c (cell c (now (a .entry))) ⌝ }
+    ensures { λ _. ⌜ now (out .exit) ≡ unpackOf r c (now (a .entry)) ⌝ }
 {
     let q = planes(c);
     let w = 2 * q;

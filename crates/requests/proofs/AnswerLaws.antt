@@ -1,5 +1,5 @@
 -- What a list of tests answers. Assumes nothing.
-use mathlib.Core.Path.{_≡_, refl, sym, ap, _∙_}
+use mathlib.Core.Path.{_≡_, refl, sym, ap, subst, _∙_}
 use mathlib.Core.Bool.{Bool, true, false, _&&_}
 use mathlib.Core.List.{List, [], _∷_, _++_}
 use Prim.Native.Nat.{ℕ, zero, suc, _<_}
@@ -94,6 +94,10 @@ first-none [] p e = tt
 first-none ((true, m) ∷ ts) p e = absurd (omega (arith, ltb→lt 0 m (both (ltb 0 m) (positive ts) p .0)))
 first-none ((false, m) ∷ ts) p e = (refl, first-none ts (both (ltb 0 m) (positive ts) p .1) e)
 
+answered-first : {S : Type 0} (ts : Tests) (old new : S) → answered ts old new .0 ≡ first ts
+unfolding answered
+answered-first ts old new = refl
+
 -- a refusal leaves what was there, and done leaves what is new
 module _ {S : Type 0} (ts : Tests) (old new : S) where
   pub refusal-keeps : (n : ℕ) (s : S) → (n ≡ 0 → ⊥) → (n, s) ≡ answered ts old new → s ≡ old
@@ -109,6 +113,25 @@ module _ {S : Type 0} (ts : Tests) (old new : S) where
   done-makes s e =
       let z : first ts ≡ 0 = sym (ap (λ (o : ℕ × S). o .0) e) in
       (z, ap (λ (o : ℕ × S). o .1) e ∙ ap (λ (m : ℕ). left m old new) z)
+
+-- all that a statement says of a request's answer: a number is given exactly when its test is the first that holds, and then what was
+-- there is left; done is given exactly when no test holds, and then what is new is left
+pub record Exact {S : Type 0} (ts : Tests) (old new : S) (n : ℕ) (s : S) : Type 0 where
+  pub refused : (k : ℕ) → (k ≡ 0 → ⊥) → (n ≡ k → Gives k ts) × (Gives k ts → n ≡ k)
+  pub keeps : (n ≡ 0 → ⊥) → s ≡ old
+  pub done : (n ≡ 0 → None ts) × (None ts → n ≡ 0)
+  pub makes : n ≡ 0 → s ≡ new
+
+pub exact : {S : Type 0} (ts : Tests) (old new : S) (n : ℕ) (s : S) → T (positive ts) → (n, s) ≡ answered ts old new → Exact ts old new n s
+exact {S = S} ts old new n s pos says = record {
+  refused = λ k ne. (λ e. given ts k ne (sym number-is ∙ e), λ g. number-is ∙ gives ts k g);
+  keeps = λ ne. refusal-keeps ts old new n s ne says;
+  done = (λ e. first-none ts pos (sym number-is ∙ e), λ h. number-is ∙ none-first ts h);
+  makes = λ e. done-makes ts old new s (subst (λ (m : ℕ). _≡_ {A = ℕ × S} (m, s) (answered ts old new)) e says) .1;
+}
+  where
+    number-is : n ≡ first ts
+    number-is = ap (λ (v : ℕ × S). v .0) says ∙ answered-first ts old new
 
 -- ---- two outcomes that satisfy one statement coincide
 

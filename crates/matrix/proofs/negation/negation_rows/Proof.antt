@@ -2,6 +2,7 @@ use mathlib.Core.Path.{_≡_, refl, _∙_}
 use Prim.Native.Nat.{ℕ, _*_, _-_, _≤_}
 use lib.ListN.{length}
 use Rattle.cells.specs.Digit.{neg3}
+use Rattle.matrix.specs.Negation.{negationOf}
 use Rattle.buffers.specs.Buffer.{words}
 use Rattle.buffers.proofs.SizeLaws.{planes-le, words-le, row-fits}
 use Rattle.rows.specs.Row.{of1}
@@ -47,7 +48,7 @@ same-length : tie.Need-same-length Inv-loop μ-loop
 same-length c = c .before .loop .inv .1 .len
 
 returns : tie.Need-returns Inv-loop μ-loop
-unfolding neg3
+unfolding negationOf neg3
 returns c =
     let e : c .before .loop .i ≡ c .before .before .before .before .before .args .r = omega arith in
     placewise1 neg3 refl _ _ _ _ _ (c .before .before .planes .ensures) (c .before .before .before .before .before .pre .2) (rw (e, c .before .before .before .before .before .pre .3) at (c .before .loop .inv .1))

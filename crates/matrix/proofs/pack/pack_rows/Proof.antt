@@ -4,6 +4,7 @@ use lib.ListN.{length, getD}
 use Rattle.buffers.proofs.SizeLaws.{planes-le, words-le, row-fits}
 use Rattle.requests.proofs.MatrixLaws.{RowsMade, rows-none, rows-more}
 use Rattle.matrix.specs.Gathered.{upTo}
+use Rattle.matrix.specs.Pack.{packOf}
 use Rattle.matrix.proofs.PackLaws.{cells-le, cells-in, packed-all}
 use native.Mathlib.Omega.{arith}
 use Rattle.matrix.proofs.pack.pack_rows.Statement.{statement}
@@ -46,6 +47,7 @@ same-length : tie.Need-same-length Inv-loop μ-loop
 same-length c = c .before .loop .inv .1 .len
 
 returns : tie.Need-returns Inv-loop μ-loop
+unfolding packOf
 returns c =
     let e : c .before .loop .i ≡ c .before .before .before .before .before .args .r = omega arith in
     packed-all _ _ _ _ _ (c .before .before .planes .ensures) (rw (e, c .before .before .before .before .before .pre .3) at (c .before .loop .inv .1))

@@ -3,6 +3,7 @@ use mathlib.Core.List.{List}
 use Prim.Native.Nat.{ℕ, _*_, _-_, _≤_}
 use lib.ListN.{length}
 use Rattle.cells.specs.Digit.{add3}
+use Rattle.matrix.specs.Sum.{sumOf}
 use Rattle.buffers.specs.Buffer.{words}
 use Rattle.buffers.proofs.SizeLaws.{planes-le, words-le, row-fits}
 use Rattle.rows.specs.Row.{of2}
@@ -49,7 +50,7 @@ same-length : tie.Need-same-length Inv-loop μ-loop
 same-length c = c .before .loop .inv .1 .len
 
 returns : tie.Need-returns Inv-loop μ-loop
-unfolding add3
+unfolding sumOf add3
 returns c =
     let e : c .before .loop .i ≡ c .before .before .before .before .before .before .args .r = omega arith in
     placewise2 add3 refl _ _ _ _ _ _ (c .before .before .planes .ensures) (c .before .before .before .before .before .before .pre .2) (c .before .before .before .before .before .before .pre .3) (rw (e, c .before .before .before .before .before .before .pre .4) at (c .before .loop .inv .1))

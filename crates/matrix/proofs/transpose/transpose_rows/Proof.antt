@@ -5,6 +5,7 @@ use Rattle.buffers.specs.Buffer.{cell}
 use Rattle.buffers.proofs.SizeLaws.{planes-le, words-le, row-fits}
 use Rattle.requests.proofs.MatrixLaws.{RowsMade, rows-none, rows-more}
 use Rattle.matrix.specs.Gathered.{upTo}
+use Rattle.matrix.specs.Transpose.{transposeOf}
 use Rattle.matrix.proofs.TransposeLaws.{transposed}
 use native.Mathlib.Omega.{arith}
 use Rattle.matrix.proofs.transpose.transpose_rows.Statement.{statement}
@@ -44,6 +45,7 @@ same-length : tie.Need-same-length Inv-loop μ-loop
 same-length c = c .before .loop .inv .1 .len
 
 returns : tie.Need-returns Inv-loop μ-loop
+unfolding transposeOf
 returns c =
     let e : c .before .loop .i ≡ c .before .before .before .before .before .args .c = omega arith in
     transposed _ _ _ _ _ (c .before .before .planes .ensures) (rw (e, c .before .before .before .before .before .pre .3) at (c .before .loop .inv .1))

@@ -2,6 +2,7 @@ use mathlib.Core.Path.{_≡_, _∙_}
 use Prim.Native.Nat.{_+_, _-_, _*_, _≤_}
 use lib.ListN.{length}
 use Rattle.buffers.specs.Buffer.{cell}
+use Rattle.matrix.specs.Unpack.{unpackOf}
 use Rattle.buffers.proofs.SizeLaws.{planes-le, words-le, row-fits}
 use Rattle.matrix.proofs.PackLaws.{cells-le, cells-in}
 use Rattle.matrix.proofs.UnpackLaws.{BytesMade, bytes-none, bytes-more, bytes-all}
@@ -46,6 +47,7 @@ same-length : tie.Need-same-length Inv-loop μ-loop
 same-length c = c .before .loop .inv .1 .len
 
 returns : tie.Need-returns Inv-loop μ-loop
+unfolding unpackOf
 returns c =
     let e : c .before .loop .i ≡ c .before .before .before .before .before .args .r = omega arith in
     bytes-all _ _ _ _ (rw (e, c .before .before .before .before .before .pre .3) at (c .before .loop .inv .1))

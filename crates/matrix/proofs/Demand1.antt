@@ -1,0 +1,68 @@
+-- Demand 1: every request ends with an answer, and its statement says which. For each request: a number is given exactly when its test is
+-- the first in the order that holds, and then every buffer holds what it held; done is given exactly when no test holds. Assumes nothing.
+use mathlib.Core.Path.{_≡_, sym, _∙_}
+use mathlib.Core.Bool.{Bool, false}
+use mathlib.Core.List.{List, [], _∷_}
+use Prim.Native.Nat.{ℕ}
+use lib.Dec.{eqb}
+use lib.ListN.{length}
+use Rattle.requests.specs.declared.Size.{Size}
+use Rattle.requests.specs.declared.Answer.{Answer}
+use Rattle.requests.specs.Answers.{number, first}
+use Rattle.requests.specs.Sizes.{faults}
+use Rattle.requests.specs.Single.{singleTests}
+use Rattle.requests.specs.Pair.{pairTests}
+use Rattle.matrix.specs.declared.tally.Tallied.{Tallied}
+use Rattle.matrix.specs.Check.{checkTests, checkMeans}
+use Rattle.matrix.specs.Pack.{packOf, packTests, packMeans}
+use Rattle.matrix.specs.Unpack.{unpackOf, unpackTests, unpackMeans}
+use Rattle.matrix.specs.Sum.{sumOf, sumMeans}
+use Rattle.matrix.specs.Difference.{differenceOf, differenceMeans}
+use Rattle.matrix.specs.Negation.{negationOf, negationMeans}
+use Rattle.matrix.specs.Scaling.{scalingOf, scalingTests, scalingMeans}
+use Rattle.matrix.specs.Transpose.{turned, transposeOf, transposeMeans}
+use Rattle.matrix.specs.Tally.{count, tallyMeans}
+use Rattle.requests.proofs.AnswerLaws.{None, Gives, given, gives, first-none, none-first, Exact, exact}
+
+pub check-exact : (s : Size) (a : List ℕ) (r : Answer) → number r ≡ checkMeans s a
+    → ((k : ℕ) → (k ≡ 0 → ⊥) → (number r ≡ k → Gives k (checkTests s a)) × (Gives k (checkTests s a) → number r ≡ k)) × (number r ≡ 0 → None (checkTests s a)) × (None (checkTests s a) → number r ≡ 0)
+unfolding checkMeans checkTests faults
+check-exact s a r says = (
+  λ k ne. (λ e. given (checkTests s a) k ne (sym says ∙ e), λ g. says ∙ gives (checkTests s a) k g),
+  λ e. first-none (checkTests s a) tt (sym says ∙ e),
+  λ h. says ∙ none-first (checkTests s a) h,
+)
+
+pub sum-exact : (x y : Size) (a b out : List ℕ) (r : Answer) (o : List ℕ) → (number r, o) ≡ sumMeans x y a b out → Exact (pairTests x y a b (length out)) out (sumOf (x .rows) (x .columns) a b) (number r) o
+unfolding sumMeans pairTests faults
+sum-exact x y a b out r o says = exact (pairTests x y a b (length out)) out (sumOf (x .rows) (x .columns) a b) (number r) o tt says
+
+pub difference-exact : (x y : Size) (a b out : List ℕ) (r : Answer) (o : List ℕ) → (number r, o) ≡ differenceMeans x y a b out → Exact (pairTests x y a b (length out)) out (differenceOf (x .rows) (x .columns) a b) (number r) o
+unfolding differenceMeans pairTests faults
+difference-exact x y a b out r o says = exact (pairTests x y a b (length out)) out (differenceOf (x .rows) (x .columns) a b) (number r) o tt says
+
+pub negation-exact : (s : Size) (a out : List ℕ) (r : Answer) (o : List ℕ) → (number r, o) ≡ negationMeans s a out → Exact (singleTests s s a (length out)) out (negationOf (s .rows) (s .columns) a) (number r) o
+unfolding negationMeans singleTests faults
+negation-exact s a out r o says = exact (singleTests s s a (length out)) out (negationOf (s .rows) (s .columns) a) (number r) o tt says
+
+pub scaling-exact : (s : Size) (d : ℕ) (a out : List ℕ) (r : Answer) (o : List ℕ) → (number r, o) ≡ scalingMeans s d a out → Exact (scalingTests s d a (length out)) out (scalingOf d (s .rows) (s .columns) a) (number r) o
+unfolding scalingMeans scalingTests faults
+scaling-exact s d a out r o says = exact (scalingTests s d a (length out)) out (scalingOf d (s .rows) (s .columns) a) (number r) o tt says
+
+pub transpose-exact : (s : Size) (a out : List ℕ) (r : Answer) (o : List ℕ) → (number r, o) ≡ transposeMeans s a out → Exact (singleTests s (turned s) a (length out)) out (transposeOf (s .rows) (s .columns) a) (number r) o
+unfolding transposeMeans singleTests faults
+transpose-exact s a out r o says = exact (singleTests s (turned s) a (length out)) out (transposeOf (s .rows) (s .columns) a) (number r) o tt says
+
+pub pack-exact : (s : Size) (cells out : List ℕ) (r : Answer) (o : List ℕ) → (number r, o) ≡ packMeans s cells out → Exact (packTests s cells (length out)) out (packOf (s .rows) (s .columns) cells) (number r) o
+unfolding packMeans packTests
+pack-exact s cells out r o says = exact (packTests s cells (length out)) out (packOf (s .rows) (s .columns) cells) (number r) o tt says
+
+pub unpack-exact : (s : Size) (a out : List ℕ) (r : Answer) (o : List ℕ) → (number r, o) ≡ unpackMeans s a out → Exact (unpackTests s a (length out)) out (unpackOf (s .rows) (s .columns) a) (number r) o
+unfolding unpackMeans unpackTests faults
+unpack-exact s a out r o says = exact (unpackTests s a (length out)) out (unpackOf (s .rows) (s .columns) a) (number r) o tt says
+
+pub tally-exact : (c : ℕ) (a : List ℕ) (r : Tallied) → (number (r .answer), (r .counts, r .balanced)) ≡ tallyMeans c a
+    → Exact {S = List ℕ × Bool} (checkTests (record { rows = 1; columns = c }) a) (0 ∷ 0 ∷ 0 ∷ [], false)
+    (count 0 c a ∷ count 1 c a ∷ count 2 c a ∷ [], eqb (count 1 c a) (count 2 c a)) (number (r .answer)) (r .counts, r .balanced)
+unfolding tallyMeans checkTests faults
+tally-exact c a r says = exact (checkTests (record { rows = 1; columns = c }) a) _ _ (number (r .answer)) (r .counts, r .balanced) tt says
