@@ -1,0 +1,78 @@
+// Matrices of no columns, and of no rows, in every request.
+use super::show::answer;
+use super::show::value;
+use requests::Size;
+
+pub fn matrices() {
+    let none = [0u64; 1];
+    let more = [0u64; 1];
+    let mut out = [0u64; 1];
+    let flat = Size {
+        rows: 5,
+        columns: 0,
+    };
+    let thin = Size {
+        rows: 0,
+        columns: 70,
+    };
+    answer(b"check 5 by 0:", matrix::check::check(flat, &none[0..0]));
+    answer(b"check 0 by 70:", matrix::check::check(thin, &none[0..0]));
+    answer(
+        b"sum 5 by 0:",
+        matrix::sum::sum(flat, flat, &none[0..0], &more[0..0], &mut out[0..0]),
+    );
+    answer(
+        b"difference 0 by 70:",
+        matrix::difference::difference(thin, thin, &none[0..0], &more[0..0], &mut out[0..0]),
+    );
+    answer(
+        b"negation 5 by 0:",
+        matrix::negation::negation(flat, &none[0..0], &mut out[0..0]),
+    );
+    answer(
+        b"scaling 0 by 70:",
+        matrix::scaling::scaling(thin, 2, &none[0..0], &mut out[0..0]),
+    );
+    answer(
+        b"transpose 5 by 0:",
+        matrix::transpose::transpose(flat, &none[0..0], &mut out[0..0]),
+    );
+    answer(
+        b"transpose 0 by 70:",
+        matrix::transpose::transpose(thin, &none[0..0], &mut out[0..0]),
+    );
+}
+
+pub fn bytes() {
+    let cells = [0u8; 1];
+    let mut back = [0u8; 1];
+    let mut out = [0u64; 1];
+    let flat = Size {
+        rows: 5,
+        columns: 0,
+    };
+    answer(
+        b"pack 5 by 0:",
+        matrix::pack::pack(flat, &cells[0..0], &mut out[0..0]),
+    );
+    answer(
+        b"unpack 5 by 0:",
+        matrix::unpack::unpack(flat, &out[0..0], &mut back[0..0]),
+    );
+}
+
+pub fn tally() {
+    let none = [0u64; 1];
+    let t = matrix::tally::tally(0, &none[0..0]);
+    let said = t.answer;
+    answer(b"tally of no columns:", said);
+    let counts = t.counts;
+    value(b"zeros:", counts[0]);
+    value(b"ones:", counts[1]);
+    value(b"twos:", counts[2]);
+    let mut balanced = 0u64;
+    if t.balanced {
+        balanced = 1;
+    }
+    value(b"balanced:", balanced);
+}
