@@ -19,9 +19,9 @@ use Rattle.cells.proofs.BitLaws.{bit-lt}
 use Rattle.cells.proofs.WordLaws.{wordOf-lt, wordOf-bit, bit-high, ext}
 use Rattle.cells.specs.Pair.{digit, LegalPair, Holds, WordPair}
 use Rattle.cells.proofs.PairLaws.{holds-self, legal-none, digit-none}
-use Rattle.cells.specs.Digit.{unitOf, signOf}
+use Rattle.cells.specs.Digit.{Matrix, unitOf, signOf}
 use Rattle.cells.proofs.EncodeLaws.{unit-lt, sign-lt, unit-bit, sign-bit}
-use Rattle.buffers.specs.Buffer.{Matrix, planes, wide, words, bitAt, unit, sign, cell, Legal, Words, tab, joined, plane, encode}
+use Rattle.buffers.specs.Buffer.{planes, wide, words, bitAt, unit, sign, cell, Legal, Words, tab, joined, plane, encode}
 use Rattle.buffers.specs.Fault.{stray, padded}
 use Rattle.buffers.proofs.SizeLaws.{planes-room, planes-tight, wide-is, row-in, bitAt-word}
 

@@ -4,11 +4,7 @@ use mathlib.Core.List.{List, [], _∷_, _++_}
 use Prim.Native.Nat.{ℕ, zero, suc, _+_, _-_, _*_, _/_, _%_, _^_, _≤_, _<_, min}
 use lib.ListN.{length, getD}
 use Rattle.cells.specs.Bit.{bit, wordOf}
-use Rattle.cells.specs.Digit.{unitOf, signOf}
-
--- the digit in row i and column j; what it gives outside the sizes plays no part
-abbrev pub Matrix : Type 0
-Matrix = ℕ → ℕ → ℕ
+use Rattle.cells.specs.Digit.{Matrix, unitOf, signOf}
 
 -- how many words hold a plane of a row of c columns, a row, and r rows
 unfoldable pub planes : ℕ → ℕ

@@ -19,3 +19,7 @@ unitOf d = min d 1
 
 unfoldable pub signOf : ℕ → ℕ
 signOf d = min (d - 1) 1
+
+-- a matrix gives the digit in row i and column j; its sizes stand beside it, and what it gives outside them plays no part
+abbrev pub Matrix : Type 0
+Matrix = ℕ → ℕ → ℕ

@@ -4,8 +4,8 @@ use mathlib.Core.List.{List}
 use Prim.Native.Nat.{ℕ, _<_, _+_, _*_, _%_}
 use native.Mathlib.Omega.{arith}
 use lib.ListN.{length, getD}
-use Rattle.cells.specs.Digit.{add3, sub3, neg3, mul3}
-use Rattle.buffers.specs.Buffer.{Matrix, cell, Legal, Words, encode}
+use Rattle.cells.specs.Digit.{Matrix, add3, sub3, neg3, mul3}
+use Rattle.buffers.specs.Buffer.{cell, Legal, Words, encode}
 use Rattle.buffers.proofs.SizeLaws.{cell-lt}
 use Rattle.buffers.proofs.BufferLaws.{cell-encode, encode-legal, encode-words, legal-same}
 use Rattle.requests.specs.declared.Size.{Size}

@@ -5,8 +5,8 @@ use mathlib.Core.List.{List}
 use Prim.Native.Nat.{ℕ, _+_, _*_, _/_, _%_, _<_}
 use native.Mathlib.Nat.{mul-comm, mul-assoc, add-mul, div-add-mod', add-mul-mod-self-right}
 use native.Mathlib.Omega.{arith}
-use Rattle.cells.specs.Digit.{add3, sub3, neg3, mul3}
-use Rattle.buffers.specs.Buffer.{Matrix, cell, Legal, Words, encode}
+use Rattle.cells.specs.Digit.{Matrix, add3, sub3, neg3, mul3}
+use Rattle.buffers.specs.Buffer.{cell, Legal, Words, encode}
 use Rattle.buffers.proofs.SizeLaws.{cell-lt}
 use Rattle.buffers.proofs.BufferLaws.{cell-encode, encode-cell, encode-within}
 use Rattle.matrix.specs.Sum.{sumOf}

@@ -4,7 +4,8 @@ use mathlib.Core.List.{List}
 use Prim.Native.Nat.{ℕ, _+_, _*_, _<_}
 use native.Mathlib.Omega.{arith}
 use lib.ListN.{length, getD}
-use Rattle.buffers.specs.Buffer.{Matrix, cell, Legal, Words, encode, tab, joined}
+use Rattle.cells.specs.Digit.{Matrix}
+use Rattle.buffers.specs.Buffer.{cell, Legal, Words, encode, tab, joined}
 use Rattle.buffers.proofs.BufferLaws.{cell-encode, encode-cell, encode-within, getD-joined, getD-tab, length-tab}
 use Rattle.matrix.specs.Unpacked.{byteAt, bytes}
 use Rattle.matrix.specs.Pack.{packOf}

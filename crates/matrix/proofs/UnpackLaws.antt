@@ -12,7 +12,8 @@ use lib.Pow.{shr-shr}
 use lib.Seq.{ext-getD}
 use Rattle.cells.specs.Pair.{digit}
 use Rattle.cells.proofs.AnyLaws.{or-left, or-right}
-use Rattle.buffers.specs.Buffer.{Matrix, planes, wide, cell, unit, sign, Legal, tab, joined}
+use Rattle.cells.specs.Digit.{Matrix}
+use Rattle.buffers.specs.Buffer.{planes, wide, cell, unit, sign, Legal, tab, joined}
 use Rattle.buffers.proofs.BufferLaws.{legal-tests, length-tab, getD-tab, length-joined, getD-joined, by-row}
 use Rattle.buffers.proofs.SizeLaws.{planes-room, planes-tight}
 use Rattle.requests.specs.declared.Size.{Size}

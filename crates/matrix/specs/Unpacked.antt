@@ -4,7 +4,8 @@ use mathlib.Core.List.{List}
 use Prim.Native.Nat.{ℕ, _+_, _*_}
 use lib.Dec.{eqb}
 use lib.ListN.{getD}
-use Rattle.buffers.specs.Buffer.{Matrix, tab, joined}
+use Rattle.cells.specs.Digit.{Matrix}
+use Rattle.buffers.specs.Buffer.{tab, joined}
 use Rattle.requests.specs.declared.Size.{Size}
 
 -- the digit in row i and column j of c columns

@@ -7,7 +7,8 @@ use native.Mathlib.Decide.{decLt}
 use native.Mathlib.Omega.{arith}
 use lib.ListN.{length, getD}
 use Rattle.cells.specs.Pair.{digit, LegalPair, WordPair}
-use Rattle.buffers.specs.Buffer.{Matrix, planes, wide, words, cell, Legal, Words, encode}
+use Rattle.cells.specs.Digit.{Matrix}
+use Rattle.buffers.specs.Buffer.{planes, wide, words, cell, Legal, Words, encode}
 use Rattle.buffers.proofs.SizeLaws.{wide-is, row-in, row-fits}
 use Rattle.buffers.proofs.BufferLaws.{shown, cell-word, word-legal}
 use Rattle.rows.specs.Row.{digitAt, LegalRow, of1, of2, Made, Readable}

@@ -1,0 +1,125 @@
+-- The numbers P and N: a bit for each 1, or each 2, of a block of a row. Assumes nothing.
+use Prim.Native.Nat.{ℕ, zero, suc, _+_, _-_, _*_, _/_, _%_, _^_, _≤_, _<_}
+use mathlib.Core.Path.{_≡_, refl, ap}
+use mathlib.Core.Logic.{_≢_}
+use native.Mathlib.Omega.{arith}
+use native.Mathlib.Nat.{add-zero, div-div-eq-div-mul, pow-succ', div-one}
+use lib.Dec.{lit<, lit≤}
+use Rattle.steps.specs.Matrix.{Row, sum}
+use Rattle.cells.specs.Counts.{is}
+use Rattle.steps.specs.StepList.{bitsOf}
+use Rattle.steps.specs.Step.{lowestBit, cleared}
+use Rattle.steps.proofs.LowestBit.{lowest-ind}
+
+pub is-le : (a d : ℕ) → is a d ≤ 1
+unfolding is
+is-le zero zero = lit≤ tt
+is-le zero (suc d) = lit≤ tt
+is-le (suc a) zero = lit≤ tt
+is-le (suc a) (suc d) = is-le a d
+
+pub is-same : (a d : ℕ) → a ≡ d → is a d ≡ 1
+unfolding is
+is-same zero zero e = refl
+is-same zero (suc d) e = absurd (omega arith)
+is-same (suc a) zero e = absurd (omega arith)
+is-same (suc a) (suc d) e = is-same a d (omega arith)
+
+pub is-other : (a d : ℕ) → a ≢ d → is a d ≡ 0
+unfolding is
+is-other zero zero n = absurd (n refl)
+is-other zero (suc d) n = refl
+is-other (suc a) zero n = refl
+is-other (suc a) (suc d) n = is-other a d (λ e. n (ap suc e))
+
+pub bits-lt : (d : ℕ) (r : Row) (w s : ℕ) → bitsOf d r s w < 2 ^ w
+unfolding bitsOf
+bits-lt d r zero s = lit< tt
+bits-lt d r (suc w) s = omega (arith, bits-lt d r w (suc s), is-le (r s) d)
+
+-- only the block's own columns are read
+pub bits-same : (d : ℕ) (r r′ : Row) (w s : ℕ) → ((j : ℕ) → s ≤ j → j < s + w → r j ≡ r′ j) → bitsOf d r s w ≡ bitsOf d r′ s w
+unfolding bitsOf
+bits-same d r r′ zero s h = refl
+bits-same d r r′ (suc w) s h = rw (h s (omega arith) (omega arith), bits-same d r r′ w (suc s) (λ j a b. h j (omega arith) (omega arith)))
+
+-- bit t is that of column s + t
+pub bits-at : (d : ℕ) (r : Row) (w s t : ℕ) → t < w → bitsOf d r s w / 2 ^ t % 2 ≡ is (r (s + t)) d
+unfolding bitsOf
+bits-at d r zero s t h = absurd (omega arith)
+bits-at d r (suc w) s zero h = rw (add-zero s, div-one) (omega (arith, is-le (r s) d))
+bits-at d r (suc w) s (suc t) h =
+    let e₁ : (is (r s) d + 2 * bitsOf d r (suc s) w) / 2 ≡ bitsOf d r (suc s) w = omega (arith, is-le (r s) d) in
+    let e₂ : s + suc t ≡ suc s + t = omega arith in
+    rw (pow-succ', ← (div-div-eq-div-mul (is (r s) d + 2 * bitsOf d r (suc s) w) 2 (2 ^ t)), e₁, e₂) (bits-at d r w (suc s) t (omega arith))
+
+-- and no other number below 2 ^ w has these bits
+pub bits-only : (d : ℕ) (r : Row) (w s p : ℕ) → p < 2 ^ w → ((t : ℕ) → t < w → p / 2 ^ t % 2 ≡ is (r (s + t)) d) → p ≡ bitsOf d r s w
+unfolding bitsOf
+bits-only d r zero s p lt h = omega arith
+bits-only d r (suc w) s p lt h =
+    let low : p % 2 ≡ is (r s) d = rw (div-one, add-zero s) at (h 0 (omega arith)) in
+    let high : p / 2 ≡ bitsOf d r (suc s) w = bits-only d r w (suc s) (p / 2) (omega arith) further in
+    omega arith
+  where
+    further : (t : ℕ) → t < w → p / 2 / 2 ^ t % 2 ≡ is (r (suc s + t)) d
+    further t q =
+        let e : suc s + t ≡ s + suc t = omega arith in
+        rw (div-div-eq-div-mul, ← (pow-succ' 2 t), e) (h (suc t) (omega arith))
+
+-- ---- what a number picks: the sum of g (s + t) over its set bits t < w
+
+unfoldable pub picked : ℕ → (ℕ → ℕ) → ℕ → ℕ → ℕ
+picked x g s zero = 0
+picked x g s (suc w) = x % 2 * g s + picked (x / 2) g (suc s) w
+
+pub picked-zero : (g : ℕ → ℕ) (w s : ℕ) → picked 0 g s w ≡ 0
+unfolding picked
+picked-zero g zero s = refl
+picked-zero g (suc w) s = omega (arith, picked-zero g w (suc s))
+
+picked-bit : (b x : ℕ) (g : ℕ → ℕ) (w s : ℕ) → b ≤ 1 → picked (b + 2 * x) g s (suc w) ≡ b * g s + picked x g (suc s) w
+unfolding picked
+picked-bit b x g w s h =
+    let e₁ : (b + 2 * x) % 2 ≡ b = omega arith in
+    let e₂ : (b + 2 * x) / 2 ≡ x = omega arith in
+    rw (e₁, e₂)
+
+-- the lowest set bit taken out: why a table step is right
+pub picked-lowest : (g : ℕ → ℕ) (x : ℕ) → 0 < x → (w s : ℕ) → x < 2 ^ w → picked x g s w ≡ picked (cleared x) g s w + g (s + lowestBit x)
+unfolding picked
+picked-lowest g = lowest-ind (λ x. (w s : ℕ) → x < 2 ^ w → picked x g s w ≡ picked (cleared x) g s w + g (s + lowestBit x)) odd even
+  where
+    odd : (x : ℕ) → x % 2 ≡ 1 → lowestBit x ≡ 0 → cleared x ≡ x - 1 → (w s : ℕ) → x < 2 ^ w
+        → picked x g s w ≡ picked (cleared x) g s w + g (s + lowestBit x)
+    odd x e t c zero s h = absurd (omega arith)
+    odd x e t c (suc w) s h =
+        let e₁ : (x - 1) % 2 ≡ 0 = omega arith in
+        let e₂ : (x - 1) / 2 ≡ x / 2 = omega arith in
+        rw (t, c, e, e₁, e₂, add-zero s) (omega arith)
+
+    even : (x : ℕ) → 0 < x → x % 2 ≡ 0 → lowestBit x ≡ suc (lowestBit (x / 2)) → cleared x ≡ 2 * cleared (x / 2)
+        → ((w s : ℕ) → x / 2 < 2 ^ w → picked (x / 2) g s w ≡ picked (cleared (x / 2)) g s w + g (s + lowestBit (x / 2)))
+        → (w s : ℕ) → x < 2 ^ w → picked x g s w ≡ picked (cleared x) g s w + g (s + lowestBit x)
+    even x p e t c ih zero s h = absurd (omega arith)
+    even x p e t c ih (suc w) s h =
+        let e₁ : 2 * cleared (x / 2) % 2 ≡ 0 = omega arith in
+        let e₂ : 2 * cleared (x / 2) / 2 ≡ cleared (x / 2) = omega arith in
+        let e₃ : s + suc (lowestBit (x / 2)) ≡ suc s + lowestBit (x / 2) = omega arith in
+        rw (t, c, e, e₁, e₂, e₃) (omega (arith, ih w (suc s) (omega arith)))
+
+digit : (a y : ℕ) → a < 3 → is a 1 * y + 2 * (is a 2 * y) ≡ a * y
+unfolding is
+digit zero y h = omega arith
+digit (suc zero) y h = omega arith
+digit (suc (suc zero)) y h = omega arith
+digit (suc (suc (suc a))) y h = absurd (omega arith)
+
+-- a row is its ones and twice its twos
+pub ones-and-twos : (r : Row) (g : ℕ → ℕ) (w s : ℕ) → ((j : ℕ) → j < s + w → r j < 3)
+    → picked (bitsOf 1 r s w) g s w + 2 * picked (bitsOf 2 r s w) g s w ≡ sum s w (λ j. r j * g j)
+unfolding bitsOf sum
+ones-and-twos r g zero s h = rw picked-zero
+ones-and-twos r g (suc w) s h =
+    rw (picked-bit (is (r s) 1) (bitsOf 1 r (suc s) w) g w s (is-le _ _), picked-bit (is (r s) 2) (bitsOf 2 r (suc s) w) g w s (is-le _ _))
+    (omega (arith, digit (r s) (g s) (h s (omega arith)), ones-and-twos r g w (suc s) (λ j lt. h j (omega arith))))

@@ -1,0 +1,100 @@
+-- Theorem: the exact total is the sum of the counts, and is within the quote. Assumes nothing.
+use Prim.Native.Nat.{ℕ, zero, suc, _+_, _-_, _*_, _^_, _≤_, _<_, min}
+use mathlib.Core.Path.{_≡_, refl, _∙_}
+use mathlib.Core.List.{[], _∷_}
+use native.Mathlib.Omega.{arith}
+use native.Mathlib.Nat.{le-trans, sub-zero, mul-le-mul-left, mul-le-mul-right}
+use lib.Dec.{lit≤}
+use lib.Pow.{pow-mono}
+use lib.ListN.{length, length-append}
+use Rattle.cells.specs.Digit.{Matrix}
+use Rattle.steps.specs.Matrix.{sum}
+use Rattle.steps.specs.Step.{Step, tableStep, plus, minus}
+use Rattle.cells.specs.Counts.{is}
+use Rattle.steps.specs.StepList.{bitsOf, unless0, each, tableSteps, rowSteps, blockSteps, blocks, blockWidth, blockAt, steps}
+use Rattle.steps.specs.Count.{quote, total, rowCount, blockCount, countAt}
+use Rattle.steps.proofs.Sums.{sum-le, sum-same, sum-ext}
+use Rattle.steps.proofs.Loops.{length-each, no-blocks, blocks-within, width-le}
+
+pub length-unless0 : (step : ℕ → Step) (x : ℕ) → length (unless0 step x) ≡ min 1 x
+unfolding unless0
+length-unless0 step zero = refl
+length-unless0 step (suc x) = omega arith
+
+pub length-row : (A : Matrix) (s w i : ℕ) → length (rowSteps A s w i) ≡ rowCount A s w i
+unfolding rowSteps rowCount
+length-row A s w i = rw (length-append, length-unless0 (plus i), length-unless0 (minus i))
+
+pub length-rows : (A : Matrix) (s w i e : ℕ) → length (each i e (rowSteps A s w)) ≡ sum i (e - i) (rowCount A s w)
+length-rows A s w i e = length-each (rowSteps A s w) i e ∙ sum-ext _ _ (e - i) i (λ i _ _. length-row A s w i)
+
+pub length-table : (s x w : ℕ) → length (each x (2 ^ w) (λ x. tableStep s x ∷ [])) ≡ 2 ^ w - x
+length-table s x w = length-each (λ x. tableStep s x ∷ []) x (2 ^ w) ∙ omega (arith, sum-same 1 (2 ^ w - x) x)
+
+pub length-block : (m : ℕ) (A : Matrix) (s w : ℕ) → length (blockSteps m A s w) ≡ blockCount m A s w
+unfolding blockSteps tableSteps blockCount
+length-block m A s w = rw (length-append, length-table s 1 w, length-rows A s w 0 m, sub-zero)
+
+pub total-counts : (m l k : ℕ) (A : Matrix) → total m l k A ≡ sum 0 (blocks l k) (countAt m l k A)
+unfolding total steps
+total-counts m l k A =
+    length-each (blockAt m l k A) 0 (blocks l k)
+    ∙ rw sub-zero (sum-ext _ _ (blocks l k) 0 (λ b _ _. length-block m A (b * k) (blockWidth l k b)))
+
+-- with no column there is no step
+pub no-columns : (m k : ℕ) (A : Matrix) → 0 < k → total m 0 k A ≡ 0
+unfolding sum
+no-columns m k A pos = rw (total-counts, no-blocks k pos)
+
+-- ---- the quote
+
+not-both : (a : ℕ) → is a 1 + is a 2 ≤ 1
+unfolding is
+not-both zero = lit≤ tt
+not-both (suc zero) = lit≤ tt
+not-both (suc (suc zero)) = lit≤ tt
+not-both (suc (suc (suc a))) = lit≤ tt
+
+-- a row of a block of w columns takes at most 2 steps, and at most w
+pub row-le : (A : Matrix) (s w i : ℕ) → rowCount A s w i ≤ min 2 w
+unfolding rowCount bitsOf
+row-le A s zero i = lit≤ tt
+row-le A s (suc zero) i = omega (arith, not-both (A i s))
+row-le A s (suc (suc w)) i = omega arith
+
+pub block-le : (m : ℕ) (A : Matrix) (s w : ℕ) → blockCount m A s w ≤ (2 ^ w - 1) + m * min 2 w
+unfolding blockCount
+block-le m A s w = omega (arith, sum-le (rowCount A s w) (λ _. min 2 w) (row-le A s w) m 0, sum-same (min 2 w) m 0)
+
+pub total-le : (m l k : ℕ) (A : Matrix) → total m l k A ≤ quote m l k
+unfolding quote
+total-le m l k A = rw total-counts (sum-le _ _ (λ b. block-le m A (b * k) (blockWidth l k b)) (blocks l k) 0)
+
+-- ---- how large it can be
+
+pub blocks-le : (l k : ℕ) → 0 < k → blocks l k ≤ l
+blocks-le l zero pos = absurd (omega arith)
+blocks-le l (suc k) pos = go (blocks l (suc k)) refl
+  where
+    go : (n : ℕ) → blocks l (suc k) ≡ n → n ≤ l
+    go zero e = omega arith
+    go (suc b) e = omega (arith, blocks-within l (suc k) b pos (omega arith))
+
+-- no block takes more than a full one
+pub quote-le : (m l k : ℕ) → 0 < k → quote m l k ≤ l * ((2 ^ k - 1) + m * 2)
+unfolding quote
+quote-le m l k pos =
+    let c = (2 ^ k - 1) + m * 2 in
+    le-trans (sum-le _ (λ _. c) full (blocks l k) 0) (rw (sum-same c (blocks l k) 0) (mul-le-mul-right c (blocks-le l k pos)))
+  where
+    full : (b : ℕ) → (2 ^ blockWidth l k b - 1) + m * min 2 (blockWidth l k b) ≤ (2 ^ k - 1) + m * 2
+    full b =
+        let two : min 2 (blockWidth l k b) ≤ 2 = omega arith in
+        omega (arith, pow-mono (width-le l k b), mul-le-mul-left m two)
+
+-- at the sizes and widths of document 01 no total needs more than 32 bits
+pub total-small : (m l k : ℕ) (A : Matrix) → m ≤ 1024 → l ≤ 1024 → 0 < k → k ≤ 8 → total m l k A < 2 ^ 32
+total-small m l k A hm hl pos hk =
+    let p : 2 ^ k ≤ 256 = pow-mono hk in
+    let c : (2 ^ k - 1) + m * 2 ≤ 2303 = omega arith in
+    omega (arith, total-le m l k A, quote-le m l k pos, mul-le-mul-right ((2 ^ k - 1) + m * 2) hl)

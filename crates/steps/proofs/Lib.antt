@@ -1,0 +1,13 @@
+pub mod Sums
+pub mod LowestBit
+pub mod BlockBits
+pub mod Running
+pub mod Loops
+pub mod Product
+pub mod Counts
+pub mod Fits
+pub mod Kept
+pub mod Same
+pub mod Turns
+pub mod Places
+pub mod KnownSumsHold

@@ -1,0 +1,7 @@
+pub mod Matrix
+pub mod Step
+pub mod StepList
+pub mod Count
+pub mod Turn
+pub mod Place
+pub mod KnownSums
