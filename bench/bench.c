@@ -1,10 +1,10 @@
-// bench                          lists the cases, a line each: name, size, times to be measured
+// bench                          lists the cases, a line each: name, size, times to be measured, parts of its work, what a part is
 // bench CASE SIZE TIMES SIDE     runs one case; SIDE is ours or c
 //
-// Before it runs the side, a case is run on both sides and the contents of all buffers are compared. What this and the filling cost is the same
-// whatever TIMES is, so it falls out of a difference of two runs.
+// Before it runs the side, a case is run on both sides and the contents of all buffers are compared; a request is run on spoilt buffers too, and
+// both sides must refuse them alike. What this and the filling cost is the same whatever TIMES is, so it falls out of a difference of two runs.
 //
-// A new case: a function that fills the buffers, one call for each side, one line of `cases`. Kernels in C go to c/.
+// A new case: a function that fills the buffers, one call for each side, one line of `cases`. Kernels and requests in C go to c/.
 #include <stdbool.h>
 #include <stddef.h>
 #include <stdint.h>
@@ -13,11 +13,23 @@
 #include <string.h>
 
 #include "c/kernels.h"
+#include "c/requests.h"
 
-// Ours: a slice is its start and its number of elements. 0 is done, 1 a refusal.
+// Ours: a slice is its start and its number of elements. 0 is done, anything else a refusal.
 uint64_t bench_add(uint64_t *d, size_t d_len, const uint64_t *s, size_t s_len, size_t q, size_t times);
 uint64_t bench_subtract(uint64_t *d, size_t d_len, const uint64_t *s, size_t s_len, size_t q, size_t times);
 uint64_t bench_table_step(uint64_t *d, size_t d_len, const uint64_t *s, size_t s_len, size_t q, size_t times);
+
+uint64_t bench_check(uint64_t rows, uint64_t columns, const uint64_t *a, size_t a_len);
+uint64_t bench_sum(uint64_t rows, uint64_t columns, const uint64_t *a, size_t a_len, const uint64_t *b, size_t b_len, uint64_t *out,
+                   size_t out_len);
+uint64_t bench_difference(uint64_t rows, uint64_t columns, const uint64_t *a, size_t a_len, const uint64_t *b, size_t b_len, uint64_t *out,
+                          size_t out_len);
+uint64_t bench_negation(uint64_t rows, uint64_t columns, const uint64_t *a, size_t a_len, uint64_t *out, size_t out_len);
+uint64_t bench_scaling(uint64_t rows, uint64_t columns, uint8_t d, const uint64_t *a, size_t a_len, uint64_t *out, size_t out_len);
+uint64_t bench_transpose(uint64_t rows, uint64_t columns, const uint64_t *a, size_t a_len, uint64_t *out, size_t out_len);
+uint64_t bench_pack(uint64_t rows, uint64_t columns, const uint8_t *cells, size_t cells_len, uint64_t *out, size_t out_len);
+uint64_t bench_unpack(uint64_t rows, uint64_t columns, const uint64_t *a, size_t a_len, uint8_t *out, size_t out_len);
 
 enum { BUFFERS = 4, SIZES = 4 };
 
@@ -68,19 +80,51 @@ static void words(struct work *w, int i, size_t n)
     memset(w->at[i], 0, bytes);
 }
 
-static void rows(struct work *w, int i, size_t r, size_t q)
+static size_t planes(size_t c)
 {
+    return (c + 63) / 64;
+}
+
+// The columns among the places of the last word of a plane.
+static uint64_t columns_of_last(size_t c)
+{
+    return ~(uint64_t)0 >> (64 * planes(c) - c);
+}
+
+static void matrix(struct work *w, int i, size_t r, size_t c)
+{
+    size_t q = planes(c);
     words(w, i, 2 * q * r);
-    for (size_t row = 0; row < r; row++)
+    for (size_t row = 0; row < r; row++) {
+        uint64_t *unit = w->at[i] + 2 * q * row, *sign = unit + q;
         for (size_t j = 0; j < q; j++)
-            random_cells(&w->at[i][2 * q * row + j], &w->at[i][2 * q * row + q + j]);
+            random_cells(&unit[j], &sign[j]);
+        unit[q - 1] &= columns_of_last(c);
+        sign[q - 1] &= columns_of_last(c);
+    }
+}
+
+static void digits(struct work *w, int i, size_t n)
+{
+    words(w, i, (n + 7) / 8);
+    uint8_t *cells = (uint8_t *)w->at[i];
+    for (size_t k = 0; k < n; k++)
+        cells[k] = random_word() % 3;
+}
+
+// A buffer to be written holds anything, so that a word which a side forgets shows.
+static void anything(struct work *w, int i, size_t n)
+{
+    words(w, i, n);
+    for (size_t k = 0; k < n; k++)
+        w->at[i][k] = random_word();
 }
 
 // Row steps: d has two rows, of which add and subtract touch the first alone, and s one.
 static void row_step(struct work *w)
 {
-    rows(w, 0, 2, w->size);
-    rows(w, 1, 1, w->size);
+    matrix(w, 0, 2, 64 * w->size);
+    matrix(w, 1, 1, 64 * w->size);
 }
 
 static uint64_t ours_add(struct work *w, size_t times)
@@ -125,7 +169,117 @@ static uint64_t c_table_step(struct work *w, size_t times)
     return 0;
 }
 
+// Requests: the matrices have as many columns as rows. Both sides take the same arguments, and the loop that repeats the call is here for both.
+static size_t matrix_words(size_t n)
+{
+    return 2 * planes(n) * n;
+}
+
+static void one_matrix(struct work *w)
+{
+    matrix(w, 0, w->size, w->size);
+}
+
+static void one_to_one(struct work *w)
+{
+    matrix(w, 0, w->size, w->size);
+    anything(w, 1, matrix_words(w->size));
+}
+
+static void two_to_one(struct work *w)
+{
+    matrix(w, 0, w->size, w->size);
+    matrix(w, 1, w->size, w->size);
+    anything(w, 2, matrix_words(w->size));
+}
+
+static void cells_to_one(struct work *w)
+{
+    digits(w, 0, w->size * w->size);
+    anything(w, 1, matrix_words(w->size));
+}
+
+static void one_to_cells(struct work *w)
+{
+    matrix(w, 0, w->size, w->size);
+    anything(w, 1, (w->size * w->size + 7) / 8);
+}
+
+#define WORDS(i) w->at[i], w->words[i]
+#define CELLS(i) (uint8_t *)w->at[i], w->size * w->size
+#define SIDE(side, function, ...)                             \
+    static uint64_t side(struct work *w, size_t times)        \
+    {                                                         \
+        uint64_t answer = 0;                                  \
+        for (size_t i = 0; i < times; i++)                    \
+            answer = function(w->size, w->size, __VA_ARGS__); \
+        return answer;                                        \
+    }
+#define REQUEST(name, ...)                       \
+    SIDE(ours_##name, bench_##name, __VA_ARGS__) \
+    SIDE(c_##name, matrix_##name, __VA_ARGS__)
+
+REQUEST(check, WORDS(0))
+REQUEST(sum, WORDS(0), WORDS(1), WORDS(2))
+REQUEST(difference, WORDS(0), WORDS(1), WORDS(2))
+REQUEST(negation, WORDS(0), WORDS(1))
+REQUEST(scaling, 2, WORDS(0), WORDS(1))
+REQUEST(transpose, WORDS(0), WORDS(1))
+SIDE(c_transpose_blocks, matrix_transpose_blocks, WORDS(0), WORDS(1))
+REQUEST(pack, CELLS(0), WORDS(1))
+REQUEST(unpack, WORDS(0), CELLS(1))
+
+// Spoils a buffer that is read; false is that there is no further way to. The faults stand at the buffer's end, where a side that leaves a test
+// out, or ends it early, does not see them.
+typedef bool spoil(struct work *w, int buffer, int way);
+
+static bool spoil_matrix(struct work *w, int buffer, int way)
+{
+    size_t q = planes(w->size);
+    uint64_t *sign = w->at[buffer] + w->words[buffer] - 1, *unit = sign - q;
+    uint64_t columns = columns_of_last(w->size), highest = columns ^ columns >> 1;
+    if (way >= 2 && columns == ~(uint64_t)0)
+        return false;
+    switch (way) {
+    case 0:
+        w->words[buffer]--;
+        return true;
+    case 1:
+        *unit &= ~highest;
+        *sign |= highest;
+        return true;
+    case 2:
+        *sign |= ~columns;
+        return true;
+    case 3: // a padding bit in the first row too: the stray sign comes before it all the same
+        w->at[buffer][q - 1] |= ~columns;
+        *unit &= ~highest;
+        *sign |= highest;
+        return true;
+    default:
+        return false;
+    }
+}
+
+static bool spoil_cells(struct work *w, int buffer, int way)
+{
+    uint8_t *cells = (uint8_t *)w->at[buffer];
+    cells[w->size * w->size - 1] = 3;
+    return way == 0;
+}
+
 typedef uint64_t call(struct work *w, size_t times);
+typedef size_t parts(size_t size);
+
+static size_t row_words(size_t q)
+{
+    return 2 * q;
+}
+
+static size_t matrix_cells(size_t n)
+{
+    return n * n;
+}
 
 struct bench_case {
     const char *name;
@@ -133,33 +287,72 @@ struct bench_case {
     size_t times;
     void (*fill)(struct work *w);
     call *ours, *c;
+    const char *part; // what a call's work is made up of, and how many
+    parts *parts;
+    int reads; // buffers, from the first on, that `spoil` spoils
+    spoil *spoil;
 };
 
+// At 1,000 columns the last word of a plane has padding.
 static const struct bench_case cases[] = {
-    {"add-row", {1, 4, 16}, 1000, row_step, ours_add, c_add},
-    {"subtract-row", {1, 4, 16}, 1000, row_step, ours_subtract, c_subtract},
-    {"table-step", {1, 4, 16}, 1000, row_step, ours_table_step, c_table_step},
+    {"add-row", {1, 4, 16}, 1000, row_step, ours_add, c_add, "word", row_words, 0, NULL},
+    {"subtract-row", {1, 4, 16}, 1000, row_step, ours_subtract, c_subtract, "word", row_words, 0, NULL},
+    {"table-step", {1, 4, 16}, 1000, row_step, ours_table_step, c_table_step, "word", row_words, 0, NULL},
+    {"check", {64, 256, 1000, 1024}, 4, one_matrix, ours_check, c_check, "word", matrix_words, 1, spoil_matrix},
+    {"sum", {64, 256, 1000, 1024}, 4, two_to_one, ours_sum, c_sum, "word", matrix_words, 2, spoil_matrix},
+    {"difference", {64, 256, 1024}, 4, two_to_one, ours_difference, c_difference, "word", matrix_words, 2, spoil_matrix},
+    {"negation", {64, 256, 1024}, 4, one_to_one, ours_negation, c_negation, "word", matrix_words, 1, spoil_matrix},
+    {"scaling", {64, 256, 1024}, 4, one_to_one, ours_scaling, c_scaling, "word", matrix_words, 1, spoil_matrix},
+    {"transpose", {64, 256, 1000, 1024}, 2, one_to_one, ours_transpose, c_transpose, "cell", matrix_cells, 1, spoil_matrix},
+    {"transpose-blocks", {64, 256, 1024}, 2, one_to_one, ours_transpose, c_transpose_blocks, "cell", matrix_cells, 1, spoil_matrix},
+    {"pack", {64, 256, 1000, 1024}, 2, cells_to_one, ours_pack, c_pack, "cell", matrix_cells, 1, spoil_cells},
+    {"unpack", {64, 256, 1000, 1024}, 2, one_to_cells, ours_unpack, c_unpack, "cell", matrix_cells, 1, spoil_matrix},
 };
 
 enum { CASES = sizeof cases / sizeof *cases };
 
-static struct work run(const struct bench_case *k, size_t size, size_t times, call *side)
+static struct work filled(const struct bench_case *k, size_t size)
 {
     struct work w = {.size = size};
     seed = 3;
     k->fill(&w);
+    return w;
+}
+
+static struct work run(const struct bench_case *k, size_t size, size_t times, call *side)
+{
+    struct work w = filled(k, size);
     if (side(&w, times) != 0)
         die(1, "refused", k->name);
     return w;
+}
+
+static void same(const struct bench_case *k, const struct work *a, const struct work *b)
+{
+    for (int i = 0; i < BUFFERS; i++)
+        if (a->words[i] != b->words[i] || (a->words[i] != 0 && memcmp(a->at[i], b->at[i], a->words[i] * sizeof(uint64_t)) != 0))
+            die(1, "the two sides differ", k->name);
 }
 
 // Twice, so that a side which takes no notice of `times` is found out.
 static void compare(const struct bench_case *k, size_t size)
 {
     struct work a = run(k, size, 2, k->ours), b = run(k, size, 2, k->c);
-    for (int i = 0; i < BUFFERS; i++)
-        if (a.words[i] != b.words[i] || (a.words[i] != 0 && memcmp(a.at[i], b.at[i], a.words[i] * sizeof(uint64_t)) != 0))
-            die(1, "the two sides differ", k->name);
+    same(k, &a, &b);
+}
+
+static void compare_refusals(const struct bench_case *k, size_t size)
+{
+    for (int buffer = 0; buffer < k->reads; buffer++)
+        for (int way = 0;; way++) {
+            struct work a = filled(k, size), b = filled(k, size);
+            if (!k->spoil(&a, buffer, way) || !k->spoil(&b, buffer, way))
+                break;
+            uint64_t answer = k->ours(&a, 1);
+            if (answer == 0 || answer != k->c(&b, 1))
+                die(1, "the two sides refuse differently", k->name);
+            same(k, &a, &b);
+        }
 }
 
 static size_t number(const char *text)
@@ -184,7 +377,8 @@ int main(int argc, char **argv)
     if (argc == 1) {
         for (int c = 0; c < CASES; c++)
             for (int i = 0; i < SIZES && cases[c].sizes[i] != 0; i++)
-                printf("%s %zu %zu\n", cases[c].name, cases[c].sizes[i], cases[c].times);
+                printf("%s %zu %zu %zu %s\n", cases[c].name, cases[c].sizes[i], cases[c].times, cases[c].parts(cases[c].sizes[i]),
+                       cases[c].part);
         return 0;
     }
     if (argc != 5)
@@ -200,6 +394,7 @@ int main(int argc, char **argv)
     if (!ours && strcmp(argv[4], "c") != 0)
         die(2, "neither ours nor c", argv[4]);
     compare(k, size);
+    compare_refusals(k, size);
     run(k, size, times, ours ? k->ours : k->c);
     return 0;
 }

@@ -18,7 +18,7 @@ use Rattle.requests.specs.Answers.{first}
 use Rattle.requests.specs.Sizes.{over, unfit}
 use Rattle.requests.proofs.SizeLaws.{over-rows, over-columns, unfit-long}
 use Rattle.requests.proofs.AnswerLaws.{None, first-none}
-use Rattle.requests.proofs.MatrixLaws.{RowsMade, rows-all}
+use Rattle.rows.proofs.MatrixLaws.{RowsMade, rows-all}
 use Rattle.matrix.specs.Gathered.{upTo}
 use Rattle.matrix.specs.Unpacked.{byteAt, unlike}
 use Rattle.matrix.specs.Pack.{packTests}

@@ -8,7 +8,7 @@ use Rattle.cells.specs.Counts.{sumTo, is}
 use Rattle.buffers.specs.Buffer.{planes, wide, Words, bitAt, unit, sign, cell, Legal}
 use Rattle.rows.specs.Row.{Readable}
 use Rattle.rows.specs.Tally.{column, columnsWith, tallyRow}
-use Rattle.requests.proofs.MatrixLaws.{row-readable}
+use Rattle.rows.proofs.MatrixLaws.{row-readable}
 use Rattle.matrix.specs.Tally.{count}
 
 pub row-zero : (c q : ℕ) (a : List ℕ) → q ≡ planes c → Legal 1 c a → Words a → Readable q q 0 a

@@ -13,7 +13,7 @@ use Rattle.buffers.specs.Buffer.{planes, wide, words, bitAt, unit, sign, cell, 
 use Rattle.buffers.proofs.SizeLaws.{planes-room, row-fits, unit-small, sign-small}
 use Rattle.requests.specs.declared.Size.{Size}
 use Rattle.requests.specs.Sizes.{over}
-use Rattle.requests.proofs.MatrixLaws.{RowsMade, rows-all}
+use Rattle.rows.proofs.MatrixLaws.{RowsMade, rows-all}
 use Rattle.matrix.specs.Gathered.{upTo}
 use Rattle.matrix.specs.Transpose.{turned}
 use Rattle.matrix.proofs.GatherLaws.{up-in, up-out, gathered-holds}

@@ -4,4 +4,3 @@ pub mod AnswerLaws
 pub mod FaultLaws
 pub mod SingleLaws
 pub mod PairLaws
-pub mod MatrixLaws

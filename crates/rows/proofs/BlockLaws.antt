@@ -87,7 +87,7 @@ two-is : (u s : ℕ) → u < 2 → s ≤ u → s ≡ is (u + s) 2
 unfolding is
 two-is = cases (λ (u s : ℕ). s ≡ is (u + s) 2) refl refl refl
 
-is-lt : (a b : ℕ) → is a b < 2
+pub is-lt : (a b : ℕ) → is a b < 2
 unfolding is
 is-lt zero zero = omega arith
 is-lt zero (suc b) = omega arith

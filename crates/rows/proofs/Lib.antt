@@ -4,3 +4,4 @@ pub mod PartLaws
 pub mod FaultLaws
 pub mod TallyLaws
 pub mod BlockLaws
+pub mod MatrixLaws

@@ -2,7 +2,7 @@ use mathlib.Core.Path.{_≡_, _∙_}
 use Prim.Native.Nat.{ℕ, _+_, _-_, _*_, _≤_, min}
 use lib.ListN.{length, getD}
 use Rattle.buffers.proofs.SizeLaws.{planes-le, words-le, row-fits}
-use Rattle.requests.proofs.MatrixLaws.{RowsMade, rows-none, rows-more}
+use Rattle.rows.proofs.MatrixLaws.{RowsMade, rows-none, rows-more}
 use Rattle.matrix.specs.Gathered.{upTo}
 use Rattle.matrix.specs.Pack.{packOf}
 use Rattle.matrix.proofs.PackLaws.{cells-le, cells-in, packed-all}

@@ -6,7 +6,7 @@ use Rattle.matrix.specs.Scaling.{scalingOf}
 use Rattle.buffers.specs.Buffer.{words}
 use Rattle.buffers.proofs.SizeLaws.{planes-le, words-le, row-fits}
 use Rattle.rows.specs.Row.{of1}
-use Rattle.requests.proofs.MatrixLaws.{RowsMade, rows-none, rows-more, row-readable, placewise1}
+use Rattle.rows.proofs.MatrixLaws.{RowsMade, rows-none, rows-more, row-readable, placewise1}
 use native.Mathlib.Omega.{arith}
 use Rattle.matrix.proofs.scaling.scaling_rows.Statement.{statement}
 use Rattle.matrix.proofs.scaling.scaling_rows.Tie as tie

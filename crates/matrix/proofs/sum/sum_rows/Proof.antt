@@ -7,7 +7,7 @@ use Rattle.matrix.specs.Sum.{sumOf}
 use Rattle.buffers.specs.Buffer.{words}
 use Rattle.buffers.proofs.SizeLaws.{planes-le, words-le, row-fits}
 use Rattle.rows.specs.Row.{of2}
-use Rattle.requests.proofs.MatrixLaws.{RowsMade, rows-none, rows-more, row-readable, placewise2}
+use Rattle.rows.proofs.MatrixLaws.{RowsMade, rows-none, rows-more, row-readable, placewise2}
 use native.Mathlib.Omega.{arith}
 use Rattle.matrix.proofs.sum.sum_rows.Statement.{statement}
 use Rattle.matrix.proofs.sum.sum_rows.Tie as tie

@@ -3,7 +3,7 @@ use Prim.Native.Nat.{_+_, _-_, _*_, _≤_, min}
 use lib.ListN.{length}
 use Rattle.buffers.specs.Buffer.{cell}
 use Rattle.buffers.proofs.SizeLaws.{planes-le, words-le, row-fits}
-use Rattle.requests.proofs.MatrixLaws.{RowsMade, rows-none, rows-more}
+use Rattle.rows.proofs.MatrixLaws.{RowsMade, rows-none, rows-more}
 use Rattle.matrix.specs.Gathered.{upTo}
 use Rattle.matrix.specs.Transpose.{transposeOf}
 use Rattle.matrix.proofs.TransposeLaws.{transposed}

@@ -8,10 +8,11 @@ use native.Mathlib.Omega.{arith}
 use lib.ListN.{length, getD}
 use Rattle.cells.specs.Pair.{digit, LegalPair, WordPair}
 use Rattle.cells.specs.Digit.{Matrix}
-use Rattle.buffers.specs.Buffer.{planes, wide, words, cell, Legal, Words, encode}
+use Rattle.buffers.specs.Buffer.{planes, wide, words, unit, sign, cell, Legal, Words, encode}
 use Rattle.buffers.proofs.SizeLaws.{wide-is, row-in, row-fits}
 use Rattle.buffers.proofs.BufferLaws.{shown, cell-word, word-legal}
+use Rattle.rows.specs.Tally.{column}
 use Rattle.rows.specs.Row.{digitAt, LegalRow, of1, of2, Made, Readable}
 
 -- ---- the rows of a legal buffer
 
@@ -23,9 +24,14 @@ row-readable r c i q ws e L fits h = record {
 }
 
 -- the digits of row i, word by word
-cell-digit : (c i p t : ℕ) (ws : List ℕ) → t < 64 → digitAt ws (i * (2 * planes c)) (planes c) p t ≡ cell c ws i (64 * p + t)
+pub cell-digit : (c i p t : ℕ) (ws : List ℕ) → t < 64 → digitAt ws (i * (2 * planes c)) (planes c) p t ≡ cell c ws i (64 * p + t)
 unfolding digitAt wide
 cell-digit c i p t ws l = sym (cell-word c ws i p t l)
+
+-- the columns of row i
+pub column-cell : (c i q j : ℕ) (ws : List ℕ) → q ≡ planes c → column ws (i * (2 * q)) q j ≡ cell c ws i j
+unfolding column cell unit sign wide
+column-cell c i q j ws e = rw e
 
 -- ---- rows, one after another
 
@@ -37,7 +43,7 @@ pub record RowsMade (f : ℕ → ℕ → ℕ → ℕ) (n q long : ℕ) (new : Li
 pub rows-none : (f : ℕ → ℕ → ℕ → ℕ) (q : ℕ) (new : List ℕ) → RowsMade f 0 q (length new) new
 rows-none f q new = record { len = refl; made = λ i p l m. absurd (omega arith) }
 
-row-ends : (q a b : ℕ) → a < b → a * (2 * q) + (q + q) ≤ b * (2 * q)
+pub row-ends : (q a b : ℕ) → a < b → a * (2 * q) + (q + q) ≤ b * (2 * q)
 row-ends q a b l = let e : suc a * (2 * q) ≤ b * (2 * q) = mul-le-mul-right (2 * q) l in omega (arith, suc-mul a (2 * q))
 
 pub rows-more : (f : ℕ → ℕ → ℕ → ℕ) (i q n : ℕ) (mid new : List ℕ) → RowsMade f i q n mid → Made (f i) (i * (2 * q)) q q mid new → RowsMade f (i + 1) q n new
