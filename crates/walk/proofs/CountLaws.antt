@@ -1,0 +1,67 @@
+-- Counts of steps from the bits of A's rows. Assumes nothing.
+use mathlib.Core.Path.{_≡_, refl, sym, ap, ap₂, _∙_}
+use mathlib.Core.List.{List}
+use Prim.Native.Nat.{ℕ, suc, _+_, _-_, _*_, _/_, _%_, _^_, _≤_, _<_, min}
+use native.Mathlib.Numerals.{add-one}
+use native.Mathlib.Omega.{arith}
+use lib.Pow.{pow-mono}
+use Rattle.cells.specs.Bit.{bit, wordOf}
+use Rattle.cells.specs.Counts.{is}
+use Rattle.cells.specs.Digit.{Matrix}
+use Rattle.cells.proofs.WordLaws.{wordOf-lt, wordOf-bit}
+use Rattle.buffers.specs.Buffer.{planes, cell}
+use Rattle.rows.specs.Tally.{column}
+use Rattle.rows.specs.Block.{digitBits}
+use Rattle.rows.proofs.BlockLaws.{is-lt}
+use Rattle.rows.proofs.MatrixLaws.{column-cell}
+use Rattle.steps.specs.Matrix.{sum}
+use Rattle.steps.specs.StepList.{bitsOf, P, N, blocks, blockWidth}
+use Rattle.steps.specs.Count.{total, rowCount, blockCount, countAt}
+use Rattle.steps.proofs.BlockBits.{bits-only}
+use Rattle.steps.proofs.Counts.{row-le, total-counts, total-small}
+use Rattle.steps.proofs.Sums.{sum-none, sum-last, sum-le, sum-mono, sum-same}
+
+-- the bits that are read of a row of a matrix are P and N
+pub bits-are : (d l i q s w : ℕ) (a : List ℕ) → q ≡ planes l → digitBits d a (i * (2 * q)) q s w ≡ bitsOf d (cell l a i) s w
+unfolding digitBits bit
+bits-are d l i q s w a e =
+    bits-only d (cell l a i) w s _ (wordOf-lt (λ t. is (column a (i * (2 * q)) q (s + t)) d) w (λ t. is-lt _ d))
+    (λ t h. wordOf-bit (λ t. is (column a (i * (2 * q)) q (s + t)) d) w t (λ t. is-lt _ d) h ∙ ap (λ (n : ℕ). is n d) (column-cell l i q (s + t) a e))
+
+pub count-none : (m : ℕ) (A : Matrix) (s w : ℕ) → 2 ^ w - 1 ≡ (2 ^ w - 1) + sum 0 0 (rowCount A s w)
+count-none m A s w = omega (arith, sum-none (rowCount A s w) 0)
+
+pub count-more : (A : Matrix) (s w i n p q : ℕ) → n ≡ (2 ^ w - 1) + sum 0 i (rowCount A s w) → p ≡ min 1 (P A s w i) → q ≡ min 1 (N A s w i)
+    → n + (p + q) ≡ (2 ^ w - 1) + sum 0 (i + 1) (rowCount A s w)
+unfolding rowCount
+count-more A s w i n p q e ep eq = rw (add-one i) (omega (arith, sum-last (rowCount A s w) i))
+
+pub count-all : (A : Matrix) (s w i m n : ℕ) → i ≡ m → n ≡ (2 ^ w - 1) + sum 0 i (rowCount A s w) → n ≡ blockCount m A s w
+unfolding blockCount
+count-all A s w i m n e h = rw e at h
+
+-- ---- small numbers
+
+pub pow-small : (w : ℕ) → w ≤ 8 → 2 ^ w ≤ 256
+pow-small w h = let e : 2 ^ w ≤ 2 ^ 8 = pow-mono h in omega arith
+
+pub shift-one : (w : ℕ) → w ≤ 8 → 1 * 2 ^ w % 18446744073709551616 ≡ 2 ^ w
+shift-one w h = omega (arith, pow-small w h)
+
+pub count-small : (A : Matrix) (s w i : ℕ) → w ≤ 8 → (2 ^ w - 1) + sum 0 i (rowCount A s w) ≤ 255 + 2 * i
+count-small A s w i h = omega (arith, pow-small w h, sum-le (rowCount A s w) (λ _. 2) (λ i. two i) i 0, sum-same 2 i 0)
+  where
+    two : (i : ℕ) → rowCount A s w i ≤ 2
+    two i = omega (arith, row-le A s w i)
+
+-- ---- blocks
+
+module _ (m l k : ℕ) (A : Matrix) where
+  pub place-more : (b total c w : ℕ) → w ≡ blockWidth l k b → total ≡ sum 0 b (countAt m l k A) → c ≡ blockCount m A (b * k) w → total + c ≡ sum 0 (b + 1) (countAt m l k A)
+  place-more b n c w ew en ec = rw (add-one b) (sym (sum-last (countAt m l k A) b ∙ ap₂ _+_ (sym en) (ap (blockCount m A (b * k)) (sym ew) ∙ sym ec)))
+
+  pub place-small : (b n : ℕ) → m ≤ 1024 → l ≤ 1024 → 0 < k → k ≤ 8 → b ≤ blocks l k → n ≡ sum 0 b (countAt m l k A) → n < 2 ^ 32
+  place-small b n hm hl pos hk hb en = omega (arith, en, sum-mono (countAt m l k A) b (blocks l k) hb, total-counts m l k A, total-small m l k A hm hl pos hk)
+
+  pub place-all : (b n : ℕ) → b ≡ blocks l k → n ≡ sum 0 b (countAt m l k A) → n ≡ total m l k A
+  place-all b n eb en = (rw eb at en) ∙ sym (total-counts m l k A)
