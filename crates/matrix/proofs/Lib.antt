@@ -11,3 +11,4 @@ pub mod FieldLaws
 pub mod RoundTrips
 pub mod Demand2
 pub mod Impostors
+pub mod JobLaws

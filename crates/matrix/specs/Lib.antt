@@ -9,3 +9,9 @@ pub mod Negation
 pub mod Scaling
 pub mod Transpose
 pub mod Tally
+pub mod Job
+pub mod Quote
+pub mod Total
+pub mod Opening
+pub mod Turn
+pub mod Product

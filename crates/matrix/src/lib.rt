@@ -2,10 +2,16 @@
 // digit and buffers of any length get an answer, and a refusal leaves every buffer as it was.
 pub mod check;
 pub mod difference;
+pub mod job;
 pub mod negation;
+pub mod opening;
 pub mod pack;
+pub mod product;
+pub mod quote;
 pub mod scaling;
 pub mod sum;
 pub mod tally;
+pub mod total;
 pub mod transpose;
+pub mod turn;
 pub mod unpack;

@@ -40,6 +40,13 @@ append-none [] us p e = refl
 append-none ((true, m) ∷ ts) us p e = absurd (omega (arith, ltb→lt 0 m (both (ltb 0 m) (positive ts) p .0)))
 append-none ((false, m) ∷ ts) us p e = append-none ts us (both (ltb 0 m) (positive ts) p .1) e
 
+-- where none of all holds, none of the first ones does
+pub append-front : (ts us : Tests) → T (positive ts) → first (ts ++ us) ≡ 0 → first ts ≡ 0
+unfolding first
+append-front [] us p e = refl
+append-front ((true, m) ∷ ts) us p e = e
+append-front ((false, m) ∷ ts) us p e = append-front ts us (both (ltb 0 m) (positive ts) p .1) e
+
 module _ {S : Type 0} (ts : Tests) (old new : S) where
   pub refused : (n : ℕ) → (n ≡ 0 → ⊥) → first ts ≡ n → (n, old) ≡ answered ts old new
   unfolding answered left

@@ -1,0 +1,269 @@
+-- What the tests of jobs say where none of them holds. Assumes nothing.
+use mathlib.Core.Path.{_≡_, refl, sym, ap, ap₂, subst, _∙_}
+use mathlib.Core.Bool.{Bool, false, not, _||_}
+use mathlib.Core.List.{List, [], _∷_, _++_}
+use Prim.Native.Nat.{ℕ, zero, suc, _+_, _-_, _*_, _^_, _≤_, _<_, min}
+use native.Mathlib.Nat.{mul-le-mul}
+use native.Mathlib.Numerals.{add-one}
+use native.Mathlib.Omega.{arith}
+use lib.Dec.{T, ltb, eqb}
+use native.Mathlib.Decide.{decLt}
+use lib.ListN.{length, getD, List·getD-eq-default}
+use lib.Seq.{take-all}
+use borrow.Author.Tests.{ltb-false, le-ltb, eqb-true, eqb-false, not-false}
+use Rattle.cells.proofs.AnyLaws.{or-left, or-right}
+use Rattle.cells.specs.Digit.{Matrix}
+use Rattle.buffers.specs.Buffer.{words, cell, Legal, encode}
+use Rattle.buffers.proofs.BufferLaws.{legal-tests, cell-encode, encode-within, encode-legal, zeros-encode}
+use Rattle.requests.specs.declared.Size.{Size}
+use Rattle.requests.specs.Answers.{first}
+use Rattle.requests.specs.Sizes.{over, unfit, faults}
+use Rattle.requests.proofs.SizeLaws.{over-rows, over-columns, unfit-long}
+use Rattle.requests.proofs.AnswerLaws.{positive, None, first-none}
+use Rattle.rows.specs.Row.{Written}
+use Rattle.steps.specs.Matrix.{sum}
+use Rattle.steps.specs.Step.{Step, State, run, opening}
+use Rattle.steps.specs.StepList.{each, blocks, blockWidth, blockAt, steps}
+use Rattle.steps.specs.Count.{quote, total}
+use Rattle.steps.proofs.Fits.{AllFit}
+use Rattle.steps.proofs.Counts.{quote-le, total-small}
+use Rattle.steps.proofs.Sums.{sum-none, sum-last, sum-mono}
+use Rattle.steps.proofs.Same.{SameState, run-same}
+use Rattle.walk.specs.Due.{due}
+use Rattle.walk.specs.Ran.{found, Ran}
+use Rattle.walk.proofs.CountLaws.{pow-small}
+use Rattle.matrix.specs.declared.job.Job.{Job}
+use Rattle.matrix.specs.Job.{meant, tableSize, productSize, misfit, totalOf}
+use Rattle.matrix.specs.Total.{factorTests}
+use Rattle.matrix.specs.Opening.{fittingTests}
+use Rattle.matrix.specs.Turn.{sizeA, sizeB, foundTests, madeOf, leftOf, onJob}
+
+pub meant-pos : (w : ℕ) → 0 < meant w
+unfolding meant
+meant-pos zero = omega arith
+meant-pos (suc w) = omega arith
+
+pub meant-le : (w : ℕ) → w ≤ 8 → meant w ≤ 8
+unfolding meant
+meant-le zero h = omega arith
+meant-le (suc w) h = h
+
+pub table-small : (y : Size) (w : ℕ) → w ≤ 8 → y .columns ≤ 1024 → over (tableSize y w) ≡ false
+unfolding over
+table-small y w h l = rw (le-ltb 1024 (2 ^ w) (omega (arith, pow-small w h)), le-ltb 1024 (y .columns) l)
+
+pub product-small : (x y : Size) → x .rows ≤ 1024 → y .columns ≤ 1024 → over (productSize x y) ≡ false
+unfolding over
+product-small x y h l = rw (le-ltb 1024 (x .rows) h, le-ltb 1024 (y .columns) l)
+
+-- the four lengths
+module _ (x y : Size) (w a b t p : ℕ) (h : misfit x y w a b t p ≡ false) where
+  pub fit-a : unfit x a ≡ false
+  unfolding misfit
+  fit-a = or-left (unfit x a) _ h
+
+  after-a : (unfit y b || (unfit (tableSize y w) t || unfit (productSize x y) p)) ≡ false
+  unfolding misfit
+  after-a = or-right (unfit x a) _ h
+
+  pub fit-b : unfit y b ≡ false
+  fit-b = or-left (unfit y b) _ after-a
+
+  after-b : (unfit (tableSize y w) t || unfit (productSize x y) p) ≡ false
+  after-b = or-right (unfit y b) _ after-a
+
+  pub fit-table : unfit (tableSize y w) t ≡ false
+  fit-table = or-left (unfit (tableSize y w) t) _ after-b
+
+  pub fit-product : unfit (productSize x y) p ≡ false
+  fit-product = or-right (unfit (tableSize y w) t) _ after-b
+
+pub record Factor (x : Size) (w : ℕ) (a : List ℕ) : Type 0 where
+  pub rows : x .rows ≤ 1024
+  pub columns : x .columns ≤ 1024
+  pub width : w ≤ 8
+  pub legal : Legal (x .rows) (x .columns) a
+
+pub factor-ready : (x : Size) (w : ℕ) (a : List ℕ) → first (factorTests x w a) ≡ 0 → Factor x w a
+unfolding factorTests faults
+factor-ready x w a z =
+    let t : None (factorTests x w a) = first-none (factorTests x w a) tt z in
+    record {
+      rows = over-rows x (t .0);
+      columns = over-columns x (t .0);
+      width = ltb-false 8 w (t .1 .0);
+      legal = legal-tests _ _ a (unfit-long x (length a) (t .1 .1 .0)) (t .1 .1 .1 .0) (t .1 .1 .1 .1 .0);
+    }
+
+pub record Fitting (x y : Size) (w : ℕ) (a b : List ℕ) (t p : ℕ) : Type 0 where
+  pub m : x .rows ≤ 1024
+  pub l : x .columns ≤ 1024
+  pub n : y .columns ≤ 1024
+  pub width : w ≤ 8
+  pub left : Legal (x .rows) (x .columns) a
+  pub right : Legal (x .columns) (y .columns) b
+  pub table : t ≡ words (2 ^ meant w) (y .columns)
+  pub product : p ≡ words (x .rows) (y .columns)
+
+pub fitting-ready : (x y : Size) (w : ℕ) (a b : List ℕ) (t p : ℕ) → first (fittingTests x y w a b t p) ≡ 0 → Fitting x y w a b t p
+unfolding fittingTests faults
+fitting-ready x y w a b t p z =
+    let h : None (fittingTests x y w a b t p) = first-none (fittingTests x y w a b t p) tt z in
+    let small-x = or-left (over x) (over y) (h .0) in
+    let small-y = or-right (over x) (over y) (h .0) in
+    let same : x .columns ≡ y .rows = eqb-true _ _ (not-false (eqb (x .columns) (y .rows)) (h .1 .0)) in
+    let lengths = h .1 .1 .1 .0 in
+    let cells = h .1 .1 .1 .1 in
+    record {
+      m = over-rows x small-x;
+      l = over-columns x small-x;
+      n = over-columns y small-y;
+      width = ltb-false 8 w (h .1 .1 .0);
+      left = legal-tests _ _ a (unfit-long x _ (fit-a x y (meant w) (length a) (length b) t p lengths)) (cells .0) (cells .1 .0);
+      right = rw same (legal-tests _ _ b (unfit-long y _ (fit-b x y (meant w) (length a) (length b) t p lengths)) (cells .1 .1 .0) (cells .1 .1 .1 .0));
+      table = unfit-long (tableSize y (meant w)) t (fit-table x y (meant w) (length a) (length b) t p lengths);
+      product = unfit-long (productSize x y) p (fit-product x y (meant w) (length a) (length b) t p lengths);
+    }
+
+pub record Standing (job : Job) (a b t p : List ℕ) : Type 0 where
+  pub m : job .m ≤ 1024
+  pub l : job .l ≤ 1024
+  pub n : job .n ≤ 1024
+  pub some : 0 < job .width
+  pub width : job .width ≤ 8
+  pub left : Legal (job .m) (job .l) a
+  pub right : Legal (job .l) (job .n) b
+  pub table : Legal (2 ^ job .width) (job .n) t
+  pub product : Legal (job .m) (job .n) p
+
+pub standing-ready : (job : Job) (a b t p : List ℕ) → first (foundTests job a b t p) ≡ 0 → Standing job a b t p
+unfolding foundTests faults
+standing-ready job a b t p z =
+    let h : None (foundTests job a b t p) = first-none (foundTests job a b t p) tt z in
+    let x : Size = sizeA job in
+    let y : Size = sizeB job in
+    let w : ℕ = job .width in
+    let small-x = or-left (over x) (over y) (h .0) in
+    let small-y = or-right (over x) (over y) (h .0) in
+    let some : w ≡ 0 → ⊥ = eqb-false w 0 (or-left (eqb w 0) (ltb 8 w) (h .1 .0)) in
+    let lengths = h .1 .1 .0 in
+    let cells = h .1 .1 .1 in
+    record {
+      m = over-rows x small-x;
+      l = over-columns x small-x;
+      n = over-columns y small-y;
+      some = omega arith;
+      width = ltb-false 8 w (or-right (eqb w 0) (ltb 8 w) (h .1 .0));
+      left = legal-tests _ _ a (unfit-long x _ (fit-a x y w (length a) (length b) (length t) (length p) lengths)) (cells .0) (cells .1 .0);
+      right = legal-tests _ _ b (unfit-long y _ (fit-b x y w (length a) (length b) (length t) (length p) lengths)) (cells .1 .1 .0) (cells .1 .1 .1 .0);
+      table = legal-tests _ _ t (unfit-long (tableSize y w) _ (fit-table x y w (length a) (length b) (length t) (length p) lengths)) (cells .1 .1 .1 .1 .0) (cells .1 .1 .1 .1 .1 .0);
+      product = legal-tests _ _ p (unfit-long (productSize x y) _ (fit-product x y w (length a) (length b) (length t) (length p) lengths)) (cells .1 .1 .1 .1 .1 .1 .0) (cells .1 .1 .1 .1 .1 .1 .1 .0);
+    }
+
+pub meant-some : (w : ℕ) → (w ≡ 0 → ⊥) → w ≡ meant w
+unfolding meant
+meant-some zero ne = absurd (ne refl)
+meant-some (suc w) ne = refl
+
+-- ---- positive numbers alone stand in the lists
+
+pub factor-positive : (x : Size) (w : ℕ) (a : List ℕ) → T (positive (factorTests x w a))
+unfolding factorTests faults
+factor-positive x w a = tt
+
+pub fitting-positive : (x y : Size) (w : ℕ) (a b : List ℕ) (t p : ℕ) → T (positive (fittingTests x y w a b t p))
+unfolding fittingTests faults
+fitting-positive x y w a b t p = tt
+
+pub found-positive : (job : Job) (a b t p : List ℕ) → T (positive (foundTests job a b t p))
+unfolding foundTests faults
+found-positive job a b t p = tt
+
+pub pair-positive : (x y : Size) (a b : List ℕ) → T (positive (faults x a ++ faults y b))
+unfolding faults
+pair-positive x y a b = tt
+
+-- ---- zero in a buffer
+
+pub zero-all : (n : ℕ) (old new : List ℕ) → n ≡ length old → Written (λ k. 0) 0 n old new → (k : ℕ) → getD new k 0 ≡ 0
+zero-all n old new e W k = go (decLt k n)
+  where
+    go : Dec (k < n) → getD new k 0 ≡ 0
+    go (yes l) = let z : 0 + k ≡ k = omega arith in subst (λ (i : ℕ). getD new i 0 ≡ 0) z (W .written k l)
+    go (no l) = List·getD-eq-default new 0 {n = k} (omega (arith, W .long))
+
+pub zero-legal : (r c : ℕ) (ws : List ℕ) → length ws ≡ words r c → ((k : ℕ) → getD ws k 0 ≡ 0) → Legal r c ws
+zero-legal r c ws long z = subst (Legal r c) (sym (zeros-encode r c ws long z)) (encode-legal r c (λ i j. 0))
+
+-- ---- steps from the opening
+
+module _ (k m l n : ℕ) (B : Matrix) (ps : List Step) (t p t′ p′ : List ℕ) (fit : AllFit m l k ps) (et : t ≡ encode (2 ^ k) n (λ i j. 0)) (ep : p ≡ encode m n (λ i j. 0)) (R : Ran k m n B ps t p t′ p′) where
+  same-opening : SameState k m n (found n t p) opening
+  unfolding found opening
+  same-opening = record {
+    table = rw et (λ x j h q. cell-encode (2 ^ k) n (λ i j. 0) x j h q (omega arith));
+    product = rw ep (λ i j h q. cell-encode m n (λ i j. 0) i j h q (omega arith));
+  }
+
+  pub opened-table : t′ ≡ encode (2 ^ k) n (run B ps opening .table)
+  opened-table = R .table ∙ encode-within (2 ^ k) n _ _ (run-same k m l n B B (λ i j h q. refl) ps (found n t p) opening fit same-opening .table)
+
+  pub opened-product : p′ ≡ encode m n (run B ps opening .product)
+  opened-product = R .product ∙ encode-within m n _ _ (run-same k m l n B B (λ i j h q. refl) ps (found n t p) opening fit same-opening .product)
+
+-- no list is longer than the largest budget
+pub all-due : (m l k : ℕ) (A : Matrix) → m ≤ 1024 → l ≤ 1024 → 0 < k → k ≤ 8 → due 0 4294967295 (each 0 (blocks l k) (blockAt m l k A)) ≡ steps m l k A
+unfolding due steps total
+all-due m l k A hm hl pos hk = take-all 4294967295 (steps m l k A) (omega (arith, total-small m l k A hm hl pos hk))
+
+-- ---- the quote, block by block
+
+abbrev pub quoteAt : ℕ → ℕ → ℕ → ℕ → ℕ
+quoteAt m l k b = (2 ^ blockWidth l k b - 1) + m * min 2 (blockWidth l k b)
+
+pub quote-none : (m l k : ℕ) → 0 ≡ sum 0 0 (quoteAt m l k)
+quote-none m l k = sym (sum-none (quoteAt m l k) 0)
+
+pub quote-more : (m l k b n w o : ℕ) → w ≡ blockWidth l k b → o ≡ min 2 w → n ≡ sum 0 b (quoteAt m l k) → n + ((2 ^ w - 1) + m * o) ≡ sum 0 (b + 1) (quoteAt m l k)
+quote-more m l k b n w o ew eo en =
+    rw (add-one b)
+    (sym (sum-last (quoteAt m l k) b ∙ ap₂ _+_ (sym en) (ap (λ (v : ℕ). (2 ^ v - 1) + m * min 2 v) (sym ew) ∙ ap (λ (v : ℕ). (2 ^ w - 1) + m * v) (sym eo))))
+
+pub quote-small : (m l k b n : ℕ) → m ≤ 1024 → l ≤ 1024 → 0 < k → k ≤ 8 → b ≤ blocks l k → n ≡ sum 0 b (quoteAt m l k) → n ≤ 2358272
+unfolding quote
+quote-small m l k b n hm hl pos hk hb en =
+    let most : l * ((2 ^ k - 1) + m * 2) ≤ 1024 * 2303 = mul-le-mul {n₂ = 1024} {m₂ = 2303} hl (omega (arith, pow-small k hk)) in
+    omega (arith, en, sum-mono (quoteAt m l k) b (blocks l k) hb, quote-le m l k pos, most)
+
+pub quote-all : (m l k b n : ℕ) → b ≡ blocks l k → n ≡ sum 0 b (quoteAt m l k) → n ≡ quote m l k
+unfolding quote
+quote-all m l k b n eb en = rw eb at en
+
+-- ---- what a turn answers where it is done
+
+module _ (job : Job) (a b t p t′ p′ : List ℕ) (budget n count : ℕ) where
+  abbrev Outcome : Type 0
+  Outcome = Job × (ℕ × (Bool × (List ℕ × List ℕ)))
+
+  ends : ℕ → State
+  ends n = run (cell (job .n) b) (due (job .done) n (steps (job .m) (job .l) (job .width) (cell (job .l) a))) (found (job .n) t p)
+
+  outcome : ℕ → ℕ → Outcome
+  outcome n count = (onJob job n, (n, (eqb (job .done + n) count, (encode (2 ^ job .width) (job .n) (ends n .table), encode (job .m) (job .n) (ends n .product)))))
+
+  pub turn-done : n ≡ min budget (count - job .done) → count ≡ totalOf (sizeA job) (job .width) a
+      → Ran (job .width) (job .m) (job .n) (cell (job .n) b) (due (job .done) n (steps (job .m) (job .l) (job .width) (cell (job .l) a))) t p t′ p′
+      → _≡_ {A = Outcome} (onJob job n, (n, (eqb (job .done + n) count, (t′, p′)))) (
+        onJob job (madeOf job a budget),
+        (
+          madeOf job a budget,
+          (
+            eqb (job .done + madeOf job a budget) (totalOf (sizeA job) (job .width) a),
+            (encode (2 ^ job .width) (job .n) (leftOf job a b t p budget .table), encode (job .m) (job .n) (leftOf job a b t p budget .product)),
+          ),
+        ),
+      )
+  unfolding leftOf madeOf outcome ends
+  turn-done en ec R =
+      ap₂ (λ (t p : List ℕ). (onJob job n, (n, (eqb (job .done + n) count, (t, p))))) (R .table) (R .product)
+      ∙ ap₂ outcome (en ∙ ap (λ (c : ℕ). min budget (c - job .done)) ec) ec

@@ -1,0 +1,65 @@
+use mathlib.Core.Path.{_≡_, sym, ap₂, _∙_}
+use mathlib.Core.List.{List, _++_}
+use Prim.Native.Nat.{ℕ, _^_}
+use lib.ListN.{length}
+use Rattle.buffers.proofs.BufferLaws.{zeros-encode}
+use Rattle.requests.specs.declared.Size.{Size}
+use Rattle.requests.specs.Answers.{first}
+use Rattle.requests.proofs.AnswerLaws.{refused, finished, append-front}
+use Rattle.matrix.specs.declared.job.Job.{Job}
+use Rattle.matrix.specs.Job.{meant, totalOf, countless}
+use Rattle.matrix.specs.Opening.{fittingTests, openingTests, openingMeans}
+use Rattle.matrix.proofs.JobLaws.{fitting-ready, fitting-positive}
+use borrow.Author.Needs.{needs}
+use Rattle.matrix.proofs.opening.opening.Statement.{statement}
+use Rattle.matrix.proofs.opening.opening.Tie as tie
+
+abbrev made : Size → Size → ℕ → Job
+made x y w = record { m = x .rows; l = x .columns; n = y .columns; width = w; done = 0 }
+
+judged-requires : tie.Need-judged-requires
+judged-requires c κs = search needs
+
+number-requires : tie.Need-number-requires
+number-requires c κs = search needs
+
+returns : tie.Need-returns
+unfolding openingMeans
+returns c = refused _ _ _ _ (λ z. c .if1 .taken (c .before .number .ensures ∙ z)) (sym (c .before .before .judged .ensures))
+
+zero-requires : tie.Need-zero-requires
+zero-requires c κs = search needs
+
+zero-requires-2 : tie.Need-zero-requires-2
+zero-requires-2 c κs = search needs
+
+meant-requires : tie.Need-meant-requires
+meant-requires c κs = search needs
+
+same-length : tie.Need-same-length
+same-length c = search needs
+
+same-length-2 : tie.Need-same-length-2
+same-length-2 c = search needs
+
+returns-2 : tie.Need-returns-2
+unfolding openingMeans openingTests
+returns-2 c =
+    let r = fitting-ready (c .before .before .before .before .before .before .before .before .before .before .before .before .before .before .before .before .args .x) (c .before .before .before .before .before .before .before .before .before .before .before .before .before .before .before .before .args .y) (c .before .before .before .before .before .before .before .before .before .before .before .before .before .before .before .before .args .width) (c .before .before .before .before .before .before .before .before .before .before .before .before .before .before .before .before .args .a .now) (c .before .before .before .before .before .before .before .before .before .before .before .before .before .before .before .before .args .b .now) (length (c .before .before .before .before .before .before .before .before .before .before .before .before .before .before .before .before .args .table .now)) (length (c .before .before .before .before .before .before .before .before .before .before .before .before .before .before .before .before .args .product .now)) (append-front (fittingTests (c .before .before .before .before .before .before .before .before .before .before .before .before .before .before .before .before .args .x) (c .before .before .before .before .before .before .before .before .before .before .before .before .before .before .before .before .args .y) (c .before .before .before .before .before .before .before .before .before .before .before .before .before .before .before .before .args .width) (c .before .before .before .before .before .before .before .before .before .before .before .before .before .before .before .before .args .a .now) (c .before .before .before .before .before .before .before .before .before .before .before .before .before .before .before .before .args .b .now) (length (c .before .before .before .before .before .before .before .before .before .before .before .before .before .before .before .before .args .table .now)) (length (c .before .before .before .before .before .before .before .before .before .before .before .before .before .before .before .before .args .product .now))) (countless (totalOf (c .before .before .before .before .before .before .before .before .before .before .before .before .before .before .before .before .args .x) (meant (c .before .before .before .before .before .before .before .before .before .before .before .before .before .before .before .before .args .width)) (c .before .before .before .before .before .before .before .before .before .before .before .before .before .before .before .before .args .a .now))) (fitting-positive (c .before .before .before .before .before .before .before .before .before .before .before .before .before .before .before .before .args .x) (c .before .before .before .before .before .before .before .before .before .before .before .before .before .before .before .before .args .y) (c .before .before .before .before .before .before .before .before .before .before .before .before .before .before .before .before .args .width) (c .before .before .before .before .before .before .before .before .before .before .before .before .before .before .before .before .args .a .now) (c .before .before .before .before .before .before .before .before .before .before .before .before .before .before .before .before .args .b .now) (length (c .before .before .before .before .before .before .before .before .before .before .before .before .before .before .before .before .args .table .now)) (length (c .before .before .before .before .before .before .before .before .before .before .before .before .before .before .before .before .args .product .now))) (sym (c .before .before .before .before .before .before .before .before .before .before .before .judged .ensures) ∙ sym (c .before .before .before .before .before .before .before .before .before .before .number .ensures) ∙ c .before .before .before .before .before .before .before .before .before .if1 .left)) in
+    finished _ _ _ _ (sym (c .before .before .before .before .before .before .before .before .before .before .before .judged .ensures) ∙ sym (c .before .before .before .before .before .before .before .before .before .before .number .ensures) ∙ c .before .before .before .before .before .before .before .before .before .if1 .left)
+    (ap₂ (λ (w : ℕ) (tp : List ℕ × List ℕ). (made (c .before .before .before .before .before .before .before .before .before .before .before .before .before .before .before .before .args .x) (c .before .before .before .before .before .before .before .before .before .before .before .before .before .before .before .before .args .y) w, tp)) (c .meant .ensures)
+    (ap₂ (λ (t p : List ℕ). (t, p)) (zeros-encode (2 ^ meant (c .before .before .before .before .before .before .before .before .before .before .before .before .before .before .before .before .args .width)) (c .before .before .before .before .before .before .before .before .before .before .before .before .before .before .before .before .args .y .columns) _ (c .before .before .before .before .before .before .before .zero .ensures .0 ∙ r .table) (c .before .before .before .before .before .before .before .zero .ensures .1)) (zeros-encode (c .before .before .before .before .before .before .before .before .before .before .before .before .before .before .before .before .args .x .rows) (c .before .before .before .before .before .before .before .before .before .before .before .before .before .before .before .before .args .y .columns) _ (c .before .before .before .zero2 .ensures .0 ∙ r .product) (c .before .before .before .zero2 .ensures .1))))
+
+pub opening-spec : {M : Type 1} → statement M
+opening-spec =
+    tie.close
+    (tie.spec
+    judged-requires
+    number-requires
+    returns
+    zero-requires
+    zero-requires-2
+    meant-requires
+    same-length
+    same-length-2
+    returns-2)

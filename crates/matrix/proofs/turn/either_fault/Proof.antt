@@ -1,0 +1,26 @@
+use mathlib.Core.Path.{sym, _∙_}
+use Rattle.requests.specs.Sizes.{faults}
+use Rattle.requests.proofs.AnswerLaws.{append-given, append-none}
+use Rattle.requests.proofs.PairLaws.{faults-positive}
+use borrow.Author.Needs.{needs}
+use Rattle.matrix.proofs.turn.either_fault.Statement.{statement}
+use Rattle.matrix.proofs.turn.either_fault.Tie as tie
+
+fault-requires : tie.Need-fault-requires
+fault-requires c κs = search needs
+
+number-requires : tie.Need-number-requires
+number-requires c κs = search needs
+
+returns : tie.Need-returns
+returns c = c .before .before .fault .ensures ∙ sym (append-given (faults (c .before .before .before .before .before .args .x) (c .before .before .before .before .before .args .a .now)) (faults (c .before .before .before .before .before .args .y) (c .before .before .before .before .before .args .b .now)) (λ z. c .if1 .taken (c .before .number .ensures ∙ c .before .before .fault .ensures ∙ z)))
+
+fault-requires-2 : tie.Need-fault-requires-2
+fault-requires-2 c κs = search needs
+
+returns-2 : tie.Need-returns-2
+returns-2 c = c .fault2 .ensures ∙ sym (append-none (faults (c .before .before .before .before .before .before .args .x) (c .before .before .before .before .before .before .args .a .now)) (faults (c .before .before .before .before .before .before .args .y) (c .before .before .before .before .before .before .args .b .now)) (faults-positive _ _) (sym (c .before .before .before .fault .ensures) ∙ sym (c .before .before .number .ensures) ∙ c .before .if1 .left))
+
+pub either-fault-spec : {M : Type 1} → statement M
+either-fault-spec =
+    tie.close (tie.spec fault-requires number-requires returns fault-requires-2 returns-2)

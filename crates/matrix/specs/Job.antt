@@ -1,0 +1,33 @@
+-- A job's sizes and buffers. A is x, m by l; B is y, l by n; the table has 2 ^ width rows of n columns; the product is m by n. Assumes nothing.
+use mathlib.Core.Bool.{Bool, _||_}
+use mathlib.Core.List.{List, [], _∷_}
+use Prim.Native.Nat.{ℕ, zero, suc, _^_}
+use lib.Dec.{ltb}
+use Rattle.buffers.specs.Buffer.{cell}
+use Rattle.requests.specs.declared.Size.{Size}
+use Rattle.requests.specs.Answers.{Tests}
+use Rattle.requests.specs.Sizes.{unfit}
+use Rattle.steps.specs.Count.{total}
+
+-- 0 means the default
+unfoldable pub meant : ℕ → ℕ
+meant zero = 4
+meant (suc w) = suc w
+
+abbrev pub tableSize : Size → ℕ → Size
+tableSize y width = record { rows = 2 ^ width; columns = y .columns }
+
+abbrev pub productSize : Size → Size → Size
+productSize x y = record { rows = x .rows; columns = y .columns }
+
+-- one of the lengths of A, B, table and product is not exact
+unfoldable pub misfit : Size → Size → ℕ → ℕ → ℕ → ℕ → ℕ → Bool
+misfit x y width a b table product = unfit x a || (unfit y b || (unfit (tableSize y width) table || unfit (productSize x y) product))
+
+-- the exact total of A
+abbrev pub totalOf : Size → ℕ → List ℕ → ℕ
+totalOf x width a = total (x .rows) (x .columns) width (cell (x .columns) a)
+
+-- the exact total exceeds 4,294,967,295
+abbrev pub countless : ℕ → Tests
+countless n = (ltb 4294967295 n, 9) ∷ []

@@ -1,0 +1,36 @@
+-- What `opening` answers and leaves: a record, and zero in table and product. Assumes nothing.
+use mathlib.Core.Bool.{not, _||_}
+use mathlib.Core.List.{List, _∷_, _++_}
+use Prim.Native.Nat.{ℕ, _^_}
+use lib.Dec.{ltb, eqb}
+use lib.ListN.{length}
+use Rattle.buffers.specs.Buffer.{encode}
+use Rattle.requests.specs.declared.Size.{Size}
+use Rattle.requests.specs.Answers.{Tests, answered}
+use Rattle.requests.specs.Sizes.{over, faults}
+use Rattle.matrix.specs.declared.job.Job.{Job}
+use Rattle.matrix.specs.Job.{meant, misfit, totalOf, countless}
+
+-- the tests of sizes, width, lengths and cells; t and p are how many words table and product have
+unfoldable pub fittingTests : Size → Size → ℕ → List ℕ → List ℕ → ℕ → ℕ → Tests
+fittingTests x y width a b t p =
+    (over x || over y, 1)
+    ∷ (not (eqb (x .columns) (y .rows)), 2)
+    ∷ (ltb 8 width, 3)
+    ∷ (misfit x y (meant width) (length a) (length b) t p, 4)
+    ∷ (faults x a ++ faults y b)
+
+unfoldable pub openingTests : Size → Size → ℕ → List ℕ → List ℕ → ℕ → ℕ → Tests
+openingTests x y width a b t p = fittingTests x y width a b t p ++ countless (totalOf x (meant width) a)
+
+abbrev pub noJob : Job
+noJob = record { m = 0; l = 0; n = 0; width = 0; done = 0 }
+
+abbrev pub newJob : Size → Size → ℕ → Job
+newJob x y width = record { m = x .rows; l = x .columns; n = y .columns; width = meant width; done = 0 }
+
+-- the record, and then table and product
+unfoldable pub openingMeans : Size → Size → ℕ → List ℕ → List ℕ → List ℕ → List ℕ → ℕ × (Job × (List ℕ × List ℕ))
+openingMeans x y width a b t p =
+    answered (openingTests x y width a b (length t) (length p)) (noJob, (t, p))
+    (newJob x y width, (encode (2 ^ meant width) (y .columns) (λ i j. 0), encode (x .rows) (y .columns) (λ i j. 0)))

@@ -1,0 +1,59 @@
+-- What `turn` answers and leaves: the next steps of the list, on the contents as found. Assumes nothing.
+use mathlib.Core.Bool.{Bool, false, _||_}
+use mathlib.Core.List.{List, [], _∷_, _++_}
+use Prim.Native.Nat.{ℕ, _+_, _-_, _^_, min}
+use lib.Dec.{ltb, eqb}
+use lib.ListN.{length}
+use Rattle.buffers.specs.Buffer.{cell, encode}
+use Rattle.requests.specs.declared.Size.{Size}
+use Rattle.requests.specs.Answers.{Tests, answered}
+use Rattle.requests.specs.Sizes.{over, faults}
+use Rattle.steps.specs.Step.{State, run}
+use Rattle.steps.specs.StepList.{steps}
+use Rattle.walk.specs.Due.{due}
+use Rattle.walk.specs.Ran.{found}
+use Rattle.matrix.specs.declared.job.Job.{Job}
+use Rattle.matrix.specs.Job.{tableSize, productSize, misfit, totalOf, countless}
+
+abbrev pub sizeA : Job → Size
+sizeA job = record { rows = job .m; columns = job .l }
+
+abbrev pub sizeB : Job → Size
+sizeB job = record { rows = job .l; columns = job .n }
+
+-- the tests of sizes, width, lengths and cells: A, B, table, product
+unfoldable pub foundTests : Job → List ℕ → List ℕ → List ℕ → List ℕ → Tests
+foundTests job a b t p =
+    (over (sizeA job) || over (sizeB job), 1)
+    ∷ (eqb (job .width) 0 || ltb 8 (job .width), 3)
+    ∷ (misfit (sizeA job) (sizeB job) (job .width) (length a) (length b) (length t) (length p), 4)
+    ∷ (faults (sizeA job) a ++ (faults (sizeB job) b ++ (faults (tableSize (sizeB job) (job .width)) t ++ faults (productSize (sizeA job) (sizeB job)) p)))
+
+unfoldable pub turnTests : Job → List ℕ → List ℕ → List ℕ → List ℕ → Tests
+turnTests job a b t p = foundTests job a b t p ++ (countless (totalOf (sizeA job) (job .width) a) ++ ((ltb (totalOf (sizeA job) (job .width) a) (job .done), 7) ∷ []))
+
+-- as many steps as the budget allows, or until the list ends
+unfoldable pub madeOf : Job → List ℕ → ℕ → ℕ
+madeOf job a budget = min budget (totalOf (sizeA job) (job .width) a - job .done)
+
+-- the state that just these steps leave of the found one
+unfoldable pub leftOf : Job → List ℕ → List ℕ → List ℕ → List ℕ → ℕ → State
+leftOf job a b t p budget =
+    run (cell (job .n) b) (due (job .done) (madeOf job a budget) (steps (job .m) (job .l) (job .width) (cell (job .l) a))) (found (job .n) t p)
+
+abbrev pub onJob : Job → ℕ → Job
+onJob job made = record { m = job .m; l = job .l; n = job .n; width = job .width; done = job .done + made }
+
+-- the record, the steps made, whether the list is finished, and then table and product
+unfoldable pub turnMeans : Job → List ℕ → List ℕ → List ℕ → List ℕ → ℕ → ℕ × (Job × (ℕ × (Bool × (List ℕ × List ℕ))))
+turnMeans job a b t p budget =
+    answered (turnTests job a b t p) (job, (0, (false, (t, p)))) (
+      onJob job (madeOf job a budget),
+      (
+        madeOf job a budget,
+        (
+          eqb (job .done + madeOf job a budget) (totalOf (sizeA job) (job .width) a),
+          (encode (2 ^ job .width) (job .n) (leftOf job a b t p budget .table), encode (job .m) (job .n) (leftOf job a b t p budget .product)),
+        ),
+      ),
+    )

@@ -1,0 +1,155 @@
+// A turn: the next steps of a job's list, as many as the budget allows or until the list ends.
+ghost use mathlib.Core.Path.{_≡_};
+ghost use mathlib.Core.Bool.{false, _||_};
+ghost use mathlib.Core.List.{_++_};
+ghost use Prim.Native.Nat.{ℕ, min};
+ghost use lib.Dec.{ltb, eqb};
+ghost use lib.ListN.{length};
+ghost use Rattle.requests.specs.Answers.{number, first};
+ghost use Rattle.requests.specs.Sizes.{over, unfit, faults};
+ghost use Rattle.matrix.specs.Turn.{foundTests, turnMeans};
+use super::job::Job;
+use super::job::misfit;
+use requests::Answer;
+use requests::Size;
+use requests::faults::fault;
+use requests::number;
+use requests::sizes::either_over;
+use walk::Left;
+use walk::Shape;
+use walk::blocks::blocks_part;
+use walk::place::place;
+
+pub struct Turned {
+    pub answer: Answer,
+    pub job: Job,
+    pub made: u64,
+    pub finished: bool,
+}
+
+// In a turn a width is 1 to 8.
+fn unwide(width: u64) -> bool
+    ensures { λ r. ⌜ r ≡ (eqb width 0 || ltb 8 width) ⌝ }
+{
+    if width == 0 {
+        return true;
+    }
+    width > 8
+}
+
+fn least(a: u64, b: u64) -> u64
+    ensures { λ r. ⌜ r ≡ min a b ⌝ }
+{
+    if a < b { a } else { b }
+}
+
+// The faults of two buffers of the right length, the first one's first.
+fn either_fault(x: Size, y: Size, a: &[u64], b: &[u64]) -> Answer
+    requires { ⌜ (over x ≡ false) × (over y ≡ false) × (unfit x (length (now a)) ≡ false) × (unfit y (length (now b)) ≡ false) ⌝ }
+    ensures { λ r. ⌜ number r ≡ first (faults x (now (a .entry)) ++ faults y (now (b .entry))) ⌝ }
+{
+    let f = fault(x, a);
+    if number(f) != 0 {
+        return f;
+    }
+    fault(y, b)
+}
+
+// The tests of sizes, width, lengths and cells.
+fn judged(job: Job, a: &[u64], b: &[u64], table: &[u64], product: &[u64]) -> Answer
+    ensures { λ r. ⌜ number r ≡ first (foundTests job (now (a .entry)) (now (b .entry)) (now (table .entry)) (now (product .entry))) ⌝ }
+{
+    let x = Size {
+        rows: job.m,
+        columns: job.l,
+    };
+    let y = Size {
+        rows: job.l,
+        columns: job.n,
+    };
+    if either_over(x, y) {
+        return Answer::TooLarge;
+    }
+    let width = job.width;
+    if unwide(width) {
+        return Answer::WidthWrong;
+    }
+    if misfit(x, y, width, a.len(), b.len(), table.len(), product.len()) {
+        return Answer::LengthWrong;
+    }
+    let f = either_fault(x, y, a, b);
+    if number(f) != 0 {
+        return f;
+    }
+    let t = Size {
+        rows: 1 << width,
+        columns: job.n,
+    };
+    let p = Size {
+        rows: job.m,
+        columns: job.n,
+    };
+    either_fault(t, p, table, product)
+}
+
+// A refused turn hands the record back.
+fn refused(job: Job, answer: Answer) -> Turned
+    ensures { λ r. ⌜ (r .answer ≡ answer) × (r .job ≡ job) × (r .made ≡ 0) × (r .finished ≡ false) ⌝ }
+{
+    Turned {
+        answer: answer,
+        job: job,
+        made: 0,
+        finished: false,
+    }
+}
+
+pub fn turn(
+    job: Job,
+    a: &[u64],
+    b: &[u64],
+    table: &mut [u64],
+    product: &mut [u64],
+    budget: u32,
+) -> Turned
+    ensures { λ r. ⌜ (number (r .answer), (r .job, (r .made, (r .finished, (now (table .exit), now (product .exit)))))) ≡ turnMeans job (now (a .entry)) (now (b .entry)) (now (table .entry)) (now (product .entry)) budget ⌝ }
+{
+    let f = judged(job, a, b, table, product);
+    if number(f) != 0 {
+        return refused(job, f);
+    }
+    let shape = Shape {
+        m: job.m as usize,
+        l: job.l as usize,
+        n: job.n as usize,
+        width: job.width as usize,
+    };
+    let done = job.done;
+    let at = place(a, shape.m, shape.l, shape.width, done);
+    let total = at.total;
+    if total > 4294967295 {
+        return refused(job, Answer::TotalExceeds);
+    }
+    if done > total {
+        return refused(job, Answer::StepsExceed);
+    }
+    let made = least(budget as u64, total - done);
+    let left = Left {
+        skip: done - at.before,
+        budget: made,
+    };
+    blocks_part(table, product, a, b, shape, at.block as usize, left);
+    let next = Job {
+        m: job.m,
+        l: job.l,
+        n: job.n,
+        width: job.width,
+        done: done + made,
+    };
+    Turned {
+        answer: Answer::Done,
+        job: next,
+        made: made,
+        finished: done + made == total,
+    }
+}
