@@ -12,3 +12,4 @@ pub mod RoundTrips
 pub mod Demand2
 pub mod Impostors
 pub mod JobLaws
+pub mod Demand3

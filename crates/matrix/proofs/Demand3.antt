@@ -1,0 +1,266 @@
+-- Demand 3, over the statements of opening and turn: for two legal matrices that fit and any width, after any accepted turns with any
+-- budgets the job stands at the smaller of the budgets' sum and the list's length, and its table and product hold exactly what that many
+-- first steps leave. At the end the product is the schoolbook one, and the length never exceeds the quote. Assumes nothing.
+use mathlib.Core.Path.{_≡_, refl, sym, ap, ap₂, subst, _∙_}
+use mathlib.Core.Bool.{Bool, true, false, not, _||_}
+use mathlib.Core.List.{List, [], _∷_, _++_}
+use Prim.Native.Nat.{ℕ, zero, suc, _+_, _-_, _^_, _≤_, _<_, min}
+use native.Mathlib.Omega.{arith}
+use lib.Dec.{ltb, eqb}
+use lib.ListN.{length}
+use borrow.Author.Tests.{le-ltb, eq-eqb, ne-eqb}
+use Rattle.cells.specs.Digit.{Matrix}
+use Rattle.buffers.specs.Buffer.{words, cell, Legal, encode}
+use Rattle.buffers.proofs.SizeLaws.{cell-lt}
+use Rattle.buffers.proofs.BufferLaws.{tests-legal, cell-encode, encode-legal, encode-within}
+use Rattle.requests.specs.declared.Size.{Size}
+use Rattle.requests.specs.declared.Answer.{Answer}
+use Rattle.requests.specs.Answers.{number, first, answered}
+use Rattle.requests.specs.Sizes.{over, unfit, faults}
+use Rattle.requests.proofs.AnswerLaws.{None, none-first, append-none, append-front, later, finished, done-makes}
+use Rattle.steps.specs.Matrix.{schoolbook}
+use Rattle.steps.specs.Step.{Step, State, run, opening}
+use Rattle.steps.specs.StepList.{steps}
+use Rattle.steps.specs.Count.{quote, total}
+use Rattle.steps.specs.Turn.{after, allBudgets}
+use Rattle.steps.proofs.Counts.{total-le, total-small}
+use Rattle.steps.proofs.Product.{steps-right}
+use Rattle.steps.proofs.Running.{run-digits, opening-digits}
+use Rattle.steps.proofs.Same.{SameState}
+use Rattle.steps.proofs.Turns.{resume-same, after-all}
+use Rattle.walk.specs.Due.{due}
+use Rattle.walk.specs.Ran.{found}
+use Rattle.matrix.specs.declared.job.Job.{Job}
+use Rattle.matrix.specs.Job.{meant, tableSize, productSize, misfit, totalOf, countless}
+use Rattle.matrix.specs.Opening.{fittingTests, openingTests, newJob, openingMeans}
+use Rattle.matrix.specs.Turn.{sizeA, sizeB, foundTests, turnTests, madeOf, leftOf, onJob, turnMeans}
+use Rattle.matrix.specs.Product.{endOf, productMeans}
+use Rattle.matrix.proofs.JobLaws.{meant-pos, meant-le, table-small, product-small, Fitting, fitting-ready, fitting-positive, found-positive}
+
+-- ---- tests that do not hold
+
+small : (s : Size) → s .rows ≤ 1024 → s .columns ≤ 1024 → over s ≡ false
+unfolding over
+small s h l = rw (le-ltb 1024 (s .rows) h, le-ltb 1024 (s .columns) l)
+
+fits : (s : Size) (n : ℕ) → n ≡ words (s .rows) (s .columns) → unfit s n ≡ false
+unfolding unfit
+fits s n e = rw (eq-eqb n (words (s .rows) (s .columns)) e)
+
+-- turns that are given one after another: each is handed the record last answered and the same matrices, table and product, and is accepted
+pub data Turns (a b : List ℕ) : Job → List ℕ → List ℕ → List ℕ → Job → List ℕ → List ℕ → Type 0 where
+  none : {job : Job} {t p : List ℕ} → Turns a b job t p [] job t p
+  more : {job job₁ job₂ : Job} {t p t₁ p₁ t₂ p₂ budgets : List ℕ} (budget : ℕ) (answer : Answer) (made : ℕ) (ended : Bool)
+      → (number answer, (job₁, (made, (ended, (t₁, p₁))))) ≡ turnMeans job a b t p budget → number answer ≡ 0 → Turns a b job₁ t₁ p₁ budgets job₂ t₂ p₂
+      → Turns a b job t p (budget ∷ budgets) job₂ t₂ p₂
+
+module _ (x y : Size) (w : ℕ) (a b : List ℕ) (hm : x .rows ≤ 1024) (hl : x .columns ≤ 1024) (hn : y .columns ≤ 1024) (hw : w ≤ 8) (LA : Legal (x .rows) (x .columns) a) (LB : Legal (x .columns) (y .columns) b) where
+  abbrev m : ℕ
+  m = x .rows
+
+  abbrev l : ℕ
+  l = x .columns
+
+  abbrev n : ℕ
+  n = y .columns
+
+  abbrev k : ℕ
+  k = meant w
+
+  abbrev A : Matrix
+  A = cell l a
+
+  abbrev B : Matrix
+  B = cell n b
+
+  -- the list's length
+  abbrev pub long : ℕ
+  long = total m l k A
+
+  -- the state after the first d steps, and the record and buffers of a job that stands there
+  abbrev pub at : ℕ → State
+  at d = after B (steps m l k A) opening d
+
+  abbrev pub jobAt : ℕ → Job
+  jobAt d = record { m = m; l = l; n = n; width = k; done = d }
+
+  abbrev pub tableAt : ℕ → List ℕ
+  tableAt d = encode (2 ^ k) n (at d .table)
+
+  abbrev pub productAt : ℕ → List ℕ
+  productAt d = encode m n (at d .product)
+
+  k8 : k ≤ 8
+  k8 = meant-le w hw
+
+  no-fault : (d : ℕ) → first (foundTests (jobAt d) a b (tableAt d) (productAt d)) ≡ 0
+  unfolding foundTests faults misfit
+  no-fault d =
+      let ta = tests-legal m l a LA in
+      let tb = tests-legal l n b LB in
+      let tt′ = tests-legal (2 ^ k) n (tableAt d) (encode-legal (2 ^ k) n (at d .table)) in
+      let tp = tests-legal m n (productAt d) (encode-legal m n (at d .product)) in
+      none-first (foundTests (jobAt d) a b (tableAt d) (productAt d)) (
+        rw (small (sizeA (jobAt d)) hm hl) (small (sizeB (jobAt d)) hl hn),
+        (
+          rw (ne-eqb k 0 (λ e. omega (arith, meant-pos w))) (le-ltb 8 k k8),
+          (
+            rw (fits (sizeA (jobAt d)) (length a) (LA .long), fits (sizeB (jobAt d)) (length b) (LB .long), fits (tableSize (sizeB (jobAt d)) k) (length (tableAt d)) (encode-legal (2 ^ k) n (at d .table) .long))
+                (fits (productSize (sizeA (jobAt d)) (sizeB (jobAt d))) (length (productAt d)) (encode-legal m n (at d .product) .long)),
+            (ta .0, (ta .1, (tb .0, (tb .1, (tt′ .0, (tt′ .1, (tp .0, (tp .1, tt)))))))),
+          ),
+        ),
+      )
+
+  no-test : (d : ℕ) → d ≤ long → first (turnTests (jobAt d) a b (tableAt d) (productAt d)) ≡ 0
+  unfolding turnTests first
+  no-test d h =
+      append-none (foundTests (jobAt d) a b (tableAt d) (productAt d)) _ (found-positive (jobAt d) a b (tableAt d) (productAt d)) (no-fault d)
+      ∙ later (ltb 4294967295 long) 9 ((ltb long d, 7) ∷ []) (le-ltb 4294967295 long (omega (arith, total-small m l k A hm hl (meant-pos w) k8)))
+      ∙ later (ltb long d) 7 [] (le-ltb long d h)
+
+  -- what is found at d is the state at d, within the sizes
+  found-at : (d : ℕ) → SameState k m n (found n (tableAt d) (productAt d)) (at d)
+  unfolding found after
+  found-at d =
+      let digits = run-digits B _ opening opening-digits in
+      record {
+        table = λ i j h q. cell-encode (2 ^ k) n (at d .table) i j h q (digits .table i j);
+        product = λ i j h q. cell-encode m n (at d .product) i j h q (digits .product i j);
+      }
+
+  abbrev makes : ℕ → ℕ → ℕ
+  makes d budget = min budget (long - d)
+
+  -- a turn of a job that stands at d is accepted, and leaves it standing further on
+  pub turn-at : (d budget : ℕ) → d ≤ long
+      → turnMeans (jobAt d) a b (tableAt d) (productAt d) budget
+      ≡ (0, (jobAt (d + makes d budget), (makes d budget, (eqb (d + makes d budget) long, (tableAt (d + makes d budget), productAt (d + makes d budget))))))
+  unfolding turnMeans madeOf leftOf due
+  turn-at d budget h =
+      let S = resume-same k m l n A B B (meant-pos w) (λ i j p q. refl) opening (found n (tableAt d) (productAt d)) d (makes d budget) (found-at d) in
+      sym (finished (turnTests (jobAt d) a b (tableAt d) (productAt d)) _ _ _ (no-test d h)
+      (ap₂ (λ (t p : List ℕ). (jobAt (d + makes d budget), (makes d budget, (eqb (d + makes d budget) long, (t, p)))))
+      (sym (encode-within (2 ^ k) n _ _ (S .table))) (sym (encode-within m n _ _ (S .product)))))
+
+  -- a job that stands at d
+  pub record Stands (d : ℕ) (job : Job) (t p : List ℕ) : Type 0 where
+    pub record-is : job ≡ jobAt d
+    pub table-is : t ≡ tableAt d
+    pub product-is : p ≡ productAt d
+
+  meaning : (d budget : ℕ) (job : Job) (t p : List ℕ) → Stands d job t p → turnMeans job a b t p budget ≡ turnMeans (jobAt d) a b (tableAt d) (productAt d) budget
+  meaning d budget job t p S = rw (S .record-is, S .table-is, S .product-is)
+
+  -- never refused, where nothing else writes
+  pub accepted : (d budget : ℕ) (job : Job) (t p : List ℕ) → d ≤ long → Stands d job t p → turnMeans job a b t p budget .0 ≡ 0
+  accepted d budget job t p h S = ap (λ (o : ℕ × (Job × (ℕ × (Bool × (List ℕ × List ℕ))))). o .0) (meaning d budget job t p S ∙ turn-at d budget h)
+
+  Outcome : Type 0
+  Outcome = ℕ × (Job × (ℕ × (Bool × (List ℕ × List ℕ))))
+
+  next-at : (d budget : ℕ) → d ≤ long → d + makes d budget ≡ min (d + budget) long
+  next-at d budget h = omega arith
+
+  -- one turn
+  one-turn : (d budget : ℕ) (job job₁ : Job) (t p t₁ p₁ : List ℕ) (answer : Answer) (made : ℕ) (ended : Bool) → d ≤ long → Stands d job t p
+      → (number answer, (job₁, (made, (ended, (t₁, p₁))))) ≡ turnMeans job a b t p budget → Stands (min (d + budget) long) job₁ t₁ p₁
+  unfolding Outcome
+  one-turn d budget job job₁ t p t₁ p₁ answer made ended h S says =
+      let e = says ∙ meaning d budget job t p S ∙ turn-at d budget h in
+      subst (λ (j : ℕ). Stands j job₁ t₁ p₁) (next-at d budget h)
+      (record {
+        record-is = ap (λ (o : Outcome). o .1 .0) e;
+        table-is = ap (λ (o : Outcome). o .1 .1 .1 .1 .0) e;
+        product-is = ap (λ (o : Outcome). o .1 .1 .1 .1 .1) e;
+      })
+
+  sum-min : (d b c e : ℕ) → min (min (d + b) e + c) e ≡ min (d + (b + c)) e
+  sum-min d b c e = omega arith
+
+  -- any turns
+  pub turns-at : (budgets : List ℕ) (d : ℕ) (job job₁ : Job) (t p t₁ p₁ : List ℕ) → d ≤ long → Stands d job t p → Turns a b job t p budgets job₁ t₁ p₁
+      → Stands (min (d + allBudgets budgets) long) job₁ t₁ p₁
+  unfolding allBudgets
+  turns-at [] d job job₁ t p t₁ p₁ h S none = let e : min (d + 0) long ≡ d = omega arith in rw e S
+  turns-at (budget ∷ budgets) d job job₁ t p t₁ p₁ h S (more _ answer made ended says ok rest) =
+      subst (λ (j : ℕ). Stands j job₁ t₁ p₁) (sum-min d budget (allBudgets budgets) long)
+      (turns-at budgets (min (d + budget) long) _ job₁ _ _ t₁ p₁ (omega arith) (one-turn d budget job _ t p _ _ answer made ended h S says) rest)
+
+  -- the start
+  start : Stands 0 (newJob x y w) (encode (2 ^ k) n (λ i j. 0)) (encode m n (λ i j. 0))
+  unfolding after run opening
+  start = record { record-is = refl; table-is = refl; product-is = refl }
+
+  -- the end: the schoolbook product, for every width
+  pub end-right : (d : ℕ) → long ≤ d → productAt d ≡ encode m n (schoolbook l A B)
+  unfolding total
+  end-right d h =
+      encode-within m n _ _
+      (λ i j p q. ap (λ (st : State). st .product i j) (after-all B (steps m l k A) opening d h) ∙ steps-right m l A B (λ i j _ _. cell-lt l a i j) k (meant-pos w) i p j)
+
+  pub quoted : long ≤ quote m l k
+  quoted = total-le m l k A
+
+-- ---- the demand, from an opening on
+
+module _ (x y : Size) (w : ℕ) (a b t p : List ℕ) (r : Answer) (job₀ : Job) (t₀ p₀ : List ℕ) (opened : (number r, (job₀, (t₀, p₀))) ≡ openingMeans x y w a b t p) (ok : number r ≡ 0) where
+  Left : Type 0
+  Left = ℕ × (Job × (List ℕ × List ℕ))
+
+  abbrev new : Job × (List ℕ × List ℕ)
+  new = (newJob x y w, (encode (2 ^ meant w) (y .columns) (λ i j. 0), encode (x .rows) (y .columns) (λ i j. 0)))
+
+  made : (first (openingTests x y w a b (length t) (length p)) ≡ 0) × (_≡_ {A = Job × (List ℕ × List ℕ)} (job₀, (t₀, p₀)) new)
+  unfolding openingMeans
+  made = done-makes (openingTests x y w a b (length t) (length p)) _ new (job₀, (t₀, p₀)) (rw ok at opened)
+
+  pub facts : Fitting x y w a b (length t) (length p)
+  unfolding openingTests
+  facts = fitting-ready x y w a b (length t) (length p) (append-front (fittingTests x y w a b (length t) (length p)) _ (fitting-positive x y w a b (length t) (length p)) (made .0))
+
+  -- the sizes, the width and the matrices that an accepted opening is of
+  abbrev Standing : ℕ → Job → List ℕ → List ℕ → Type 0
+  Standing = Stands x y w a b (facts .m) (facts .l) (facts .n) (facts .width) (facts .left) (facts .right)
+
+  started : Standing 0 job₀ t₀ p₀
+  started =
+      let S = start x y w a b (facts .m) (facts .l) (facts .n) (facts .width) (facts .left) (facts .right) in
+      record {
+        record-is = ap (λ (o : Job × (List ℕ × List ℕ)). o .0) (made .1) ∙ S .record-is;
+        table-is = ap (λ (o : Job × (List ℕ × List ℕ)). o .1 .0) (made .1) ∙ S .table-is;
+        product-is = ap (λ (o : Job × (List ℕ × List ℕ)). o .1 .1) (made .1) ∙ S .product-is;
+      }
+
+  module _ (budgets : List ℕ) (job₁ : Job) (t₁ p₁ : List ℕ) (turned : Turns a b job₀ t₀ p₀ budgets job₁ t₁ p₁) where
+    abbrev reached : ℕ
+    reached = min (allBudgets budgets) (totalOf x (meant w) a)
+
+    -- the job stands at the smaller of the budgets' sum and the list's length, and holds what that many first steps leave
+    pub demand-3 : Standing reached job₁ t₁ p₁
+    demand-3 =
+        let e : min (0 + allBudgets budgets) (totalOf x (meant w) a) ≡ reached = omega arith in
+        subst (λ (d : ℕ). Standing d job₁ t₁ p₁) e
+        (turns-at x y w a b (facts .m) (facts .l) (facts .n) (facts .width) (facts .left) (facts .right) budgets 0 job₀ job₁ t₀ p₀ t₁ p₁ (omega arith) started turned)
+
+    -- at the end the product is the schoolbook one, whatever the width
+    pub demand-3-end : totalOf x (meant w) a ≤ allBudgets budgets → p₁ ≡ encode (x .rows) (y .columns) (schoolbook (x .columns) (cell (x .columns) a) (cell (y .columns) b))
+    demand-3-end h = demand-3 .product-is ∙ end-right x y w a b (facts .m) (facts .l) (facts .n) (facts .width) (facts .left) (facts .right) reached (omega arith)
+
+    -- the next turn is accepted too
+    pub demand-3-goes-on : (budget : ℕ) → turnMeans job₁ a b t₁ p₁ budget .0 ≡ 0
+    demand-3-goes-on budget = accepted x y w a b (facts .m) (facts .l) (facts .n) (facts .width) (facts .left) (facts .right) reached budget job₁ t₁ p₁ (omega arith) demand-3
+
+  -- the length never exceeds the quote
+  pub demand-3-quote : totalOf x (meant w) a ≤ quote (x .rows) (x .columns) (meant w)
+  demand-3-quote = total-le (x .rows) (x .columns) (meant w) (cell (x .columns) a)
+
+-- ---- the whole product as one request
+
+pub product-right : (x y : Size) (w : ℕ) (a b t p : List ℕ) (r : Answer) (t₁ p₁ : List ℕ) → (number r, (t₁, p₁)) ≡ productMeans x y w a b t p → number r ≡ 0
+    → p₁ ≡ encode (x .rows) (y .columns) (schoolbook (x .columns) (cell (x .columns) a) (cell (y .columns) b))
+unfolding productMeans endOf
+product-right x y w a b t p r t₁ p₁ says ok =
+    let e = done-makes (openingTests x y w a b (length t) (length p)) _ _ (t₁, p₁) (rw ok at says) in
+    ap (λ (o : List ℕ × List ℕ). o .1) (e .1)
+    ∙ encode-within (x .rows) (y .columns) _ _ (λ i j h q. steps-right (x .rows) (x .columns) (cell (x .columns) a) (cell (y .columns) b) (λ i j _ _. cell-lt (x .columns) a i j) (meant w) (meant-pos w) i h j)
