@@ -3,9 +3,10 @@
 use mathlib.Core.Path.{_≡_, sym, _∙_}
 use mathlib.Core.Bool.{Bool, false}
 use mathlib.Core.List.{List, [], _∷_}
-use Prim.Native.Nat.{ℕ}
+use Prim.Native.Nat.{ℕ, _+_, _^_}
 use lib.Dec.{eqb}
 use lib.ListN.{length}
+use Rattle.buffers.specs.Buffer.{encode}
 use Rattle.requests.specs.declared.Size.{Size}
 use Rattle.requests.specs.declared.Answer.{Answer}
 use Rattle.requests.specs.Answers.{number, first}
@@ -22,6 +23,14 @@ use Rattle.matrix.specs.Negation.{negationOf, negationMeans}
 use Rattle.matrix.specs.Scaling.{scalingOf, scalingTests, scalingMeans}
 use Rattle.matrix.specs.Transpose.{turned, transposeOf, transposeMeans}
 use Rattle.matrix.specs.Tally.{count, tallyMeans}
+use Rattle.matrix.specs.declared.job.Job.{Job}
+use Rattle.matrix.specs.Job.{meant, totalOf}
+use Rattle.matrix.specs.Quote.{quoteTests, quoteMeans}
+use Rattle.matrix.specs.Total.{factorTests, totalTests, totalMeans}
+use Rattle.matrix.specs.Opening.{fittingTests, openingTests, noJob, newJob, openingMeans}
+use Rattle.matrix.specs.Turn.{sizeA, foundTests, turnTests, madeOf, leftOf, onJob, turnMeans}
+use Rattle.matrix.specs.Product.{endOf, productMeans}
+use Rattle.steps.specs.Count.{quote}
 use Rattle.requests.proofs.AnswerLaws.{None, Gives, given, gives, first-none, none-first, Exact, exact}
 
 pub check-exact : (s : Size) (a : List ℕ) (r : Answer) → number r ≡ checkMeans s a
@@ -66,3 +75,34 @@ pub tally-exact : (c : ℕ) (a : List ℕ) (r : Tallied) → (number (r .answer)
     (count 0 c a ∷ count 1 c a ∷ count 2 c a ∷ [], eqb (count 1 c a) (count 2 c a)) (number (r .answer)) (r .counts, r .balanced)
 unfolding tallyMeans checkTests faults
 tally-exact c a r says = exact (checkTests (record { rows = 1; columns = c }) a) _ _ (number (r .answer)) (r .counts, r .balanced) tt says
+
+-- ---- jobs
+
+pub quote-exact : (x : Size) (w : ℕ) (r : Answer) (n : ℕ) → (number r, n) ≡ quoteMeans x w → Exact (quoteTests x w) 0 (quote (x .rows) (x .columns) (meant w)) (number r) n
+unfolding quoteMeans quoteTests
+quote-exact x w r n says = exact (quoteTests x w) _ _ (number r) n tt says
+
+pub total-exact : (x : Size) (w : ℕ) (a : List ℕ) (r : Answer) (n : ℕ) → (number r, n) ≡ totalMeans x w a → Exact (totalTests x w a) 0 (totalOf x (meant w) a) (number r) n
+unfolding totalMeans totalTests factorTests faults
+total-exact x w a r n says = exact (totalTests x w a) _ _ (number r) n tt says
+
+pub opening-exact : (x y : Size) (w : ℕ) (a b t p : List ℕ) (r : Answer) (o : Job × (List ℕ × List ℕ)) → (number r, o) ≡ openingMeans x y w a b t p
+    → Exact {S = Job × (List ℕ × List ℕ)} (openingTests x y w a b (length t) (length p)) (noJob, (t, p))
+    (newJob x y w, (encode (2 ^ meant w) (y .columns) (λ i j. 0), encode (x .rows) (y .columns) (λ i j. 0))) (number r) o
+unfolding openingMeans openingTests fittingTests faults
+opening-exact x y w a b t p r o says = exact (openingTests x y w a b (length t) (length p)) _ _ (number r) o tt says
+
+pub turn-exact : (job : Job) (a b t p : List ℕ) (budget : ℕ) (r : Answer) (o : Job × (ℕ × (Bool × (List ℕ × List ℕ)))) → (number r, o) ≡ turnMeans job a b t p budget
+    → Exact {S = Job × (ℕ × (Bool × (List ℕ × List ℕ)))} (turnTests job a b t p) (job, (0, (false, (t, p))))
+    (
+      onJob job (madeOf job a budget),
+      (madeOf job a budget, (eqb (job .done + madeOf job a budget) (totalOf (sizeA job) (job .width) a), (encode (2 ^ job .width) (job .n) (leftOf job a b t p budget .table), encode (job .m) (job .n) (leftOf job a b t p budget .product)))),
+    ) (number r) o
+unfolding turnMeans turnTests foundTests faults
+turn-exact job a b t p budget r o says = exact (turnTests job a b t p) _ _ (number r) o tt says
+
+pub product-exact : (x y : Size) (w : ℕ) (a b t p : List ℕ) (r : Answer) (o : List ℕ × List ℕ) → (number r, o) ≡ productMeans x y w a b t p
+    → Exact {S = List ℕ × List ℕ} (openingTests x y w a b (length t) (length p)) (t, p)
+    (encode (2 ^ meant w) (y .columns) (endOf x y (meant w) a b .table), encode (x .rows) (y .columns) (endOf x y (meant w) a b .product)) (number r) o
+unfolding productMeans openingTests fittingTests faults
+product-exact x y w a b t p r o says = exact (openingTests x y w a b (length t) (length p)) _ _ (number r) o tt says

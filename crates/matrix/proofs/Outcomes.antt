@@ -16,6 +16,12 @@ use Rattle.matrix.specs.Negation.{negationMeans}
 use Rattle.matrix.specs.Scaling.{scalingMeans}
 use Rattle.matrix.specs.Transpose.{transposeMeans}
 use Rattle.matrix.specs.Tally.{tallyMeans}
+use Rattle.matrix.specs.declared.job.Job.{Job}
+use Rattle.matrix.specs.Quote.{quoteMeans}
+use Rattle.matrix.specs.Total.{totalMeans}
+use Rattle.matrix.specs.Opening.{openingMeans}
+use Rattle.matrix.specs.Turn.{turnMeans}
+use Rattle.matrix.specs.Product.{productMeans}
 use Rattle.requests.proofs.AnswerLaws.{number-same, coincide}
 
 pub check-one : (s : Size) (a : List ℕ) (r r′ : Answer) → number r ≡ checkMeans s a → number r′ ≡ checkMeans s a → r ≡ r′
@@ -48,3 +54,23 @@ pub tally-one : (c : ℕ) (a : List ℕ) (r r′ : Tallied) → (number (r .answ
 tally-one c a r r′ p q =
     let e = coincide (tallyMeans c a) (r .answer) (r′ .answer) (r .counts, r .balanced) (r′ .counts, r′ .balanced) p q in
     (e .0, ap (λ (v : List ℕ × Bool). v .0) (e .1), ap (λ (v : List ℕ × Bool). v .1) (e .1))
+
+-- ---- jobs: the fields of the struct that comes back, and then the buffers
+
+pub quote-one : (x : Size) (w : ℕ) (r r′ : Answer) (n n′ : ℕ) → (number r, n) ≡ quoteMeans x w → (number r′, n′) ≡ quoteMeans x w → (r ≡ r′) × (n ≡ n′)
+quote-one x w r r′ n n′ p q = coincide (quoteMeans x w) r r′ n n′ p q
+
+pub total-one : (x : Size) (w : ℕ) (a : List ℕ) (r r′ : Answer) (n n′ : ℕ) → (number r, n) ≡ totalMeans x w a → (number r′, n′) ≡ totalMeans x w a → (r ≡ r′) × (n ≡ n′)
+total-one x w a r r′ n n′ p q = coincide (totalMeans x w a) r r′ n n′ p q
+
+pub opening-one : (x y : Size) (w : ℕ) (a b t p : List ℕ) (r r′ : Answer) (o o′ : Job × (List ℕ × List ℕ)) → (number r, o) ≡ openingMeans x y w a b t p
+    → (number r′, o′) ≡ openingMeans x y w a b t p → (r ≡ r′) × (o ≡ o′)
+opening-one x y w a b t p r r′ o o′ u v = coincide (openingMeans x y w a b t p) r r′ o o′ u v
+
+pub turn-one : (job : Job) (a b t p : List ℕ) (budget : ℕ) (r r′ : Answer) (o o′ : Job × (ℕ × (Bool × (List ℕ × List ℕ)))) → (number r, o) ≡ turnMeans job a b t p budget
+    → (number r′, o′) ≡ turnMeans job a b t p budget → (r ≡ r′) × (o ≡ o′)
+turn-one job a b t p budget r r′ o o′ u v = coincide (turnMeans job a b t p budget) r r′ o o′ u v
+
+pub product-one : (x y : Size) (w : ℕ) (a b t p : List ℕ) (r r′ : Answer) (o o′ : List ℕ × List ℕ) → (number r, o) ≡ productMeans x y w a b t p
+    → (number r′, o′) ≡ productMeans x y w a b t p → (r ≡ r′) × (o ≡ o′)
+product-one x y w a b t p r r′ o o′ u v = coincide (productMeans x y w a b t p) r r′ o o′ u v
