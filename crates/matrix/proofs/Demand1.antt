@@ -93,8 +93,7 @@ unfolding openingMeans openingTests fittingTests faults
 opening-exact x y w a b t p r o says = exact (openingTests x y w a b (length t) (length p)) _ _ (number r) o tt says
 
 pub turn-exact : (job : Job) (a b t p : List ℕ) (budget : ℕ) (r : Answer) (o : Job × (ℕ × (Bool × (List ℕ × List ℕ)))) → (number r, o) ≡ turnMeans job a b t p budget
-    → Exact {S = Job × (ℕ × (Bool × (List ℕ × List ℕ)))} (turnTests job a b t p) (job, (0, (false, (t, p))))
-    (
+    → Exact {S = Job × (ℕ × (Bool × (List ℕ × List ℕ)))} (turnTests job a b t p) (job, (0, (false, (t, p)))) (
       onJob job (madeOf job a budget),
       (madeOf job a budget, (eqb (job .done + madeOf job a budget) (totalOf (sizeA job) (job .width) a), (encode (2 ^ job .width) (job .n) (leftOf job a b t p budget .table), encode (job .m) (job .n) (leftOf job a b t p budget .product)))),
     ) (number r) o

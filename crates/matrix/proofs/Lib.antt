@@ -11,5 +11,6 @@ pub mod FieldLaws
 pub mod RoundTrips
 pub mod Demand2
 pub mod Impostors
+pub mod JobImpostors
 pub mod JobLaws
 pub mod Demand3

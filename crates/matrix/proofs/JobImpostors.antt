@@ -1,0 +1,130 @@
+-- Shown out by demand 3: a turn that moves the record and writes nothing, one that multiplies all at once and then only counts, and totals
+-- that do not come from A. One cell by one cell at width 1 is enough: its list is a table step, and a plus where the cell holds 1. Each known
+-- sum is computed from the requests' own statements. Assumes nothing.
+use mathlib.Core.Path.{_≡_, refl, sym, ap, _∙_}
+use mathlib.Core.Bool.{Bool, true, false, not, _||_}
+use mathlib.Core.List.{List, [], _∷_, _++_}
+use Prim.Native.Nat.{ℕ, _+_, _-_, _*_, _/_, _^_, min}
+use native.Mathlib.Omega.{arith}
+use lib.Count.{trailingZeros}
+use lib.ListN.{getD, length, take, drop}
+use Rattle.cells.specs.Any.{any}
+use Rattle.cells.specs.Bit.{bit, wordOf}
+use Rattle.cells.specs.Counts.{is}
+use Rattle.cells.specs.Digit.{add3, sub3, unitOf, signOf}
+use Rattle.buffers.specs.Buffer.{planes, wide, words, bitAt, unit, sign, cell, tab, joined, plane, encode}
+use Rattle.buffers.specs.Fault.{stray, padded}
+use Rattle.requests.specs.declared.Size.{Size}
+use Rattle.requests.specs.declared.Answer.{Answer}
+use Rattle.requests.specs.Answers.{number, first, left, answered}
+use Rattle.requests.specs.Sizes.{over, unfit, faults}
+use Rattle.steps.specs.Matrix.{sum}
+use Rattle.steps.specs.Step.{lowestBit, cleared, put, apply, run, opening}
+use Rattle.steps.specs.StepList.{bitsOf, unless0, many, each, tableSteps, rowSteps, blockSteps, blocks, blockWidth, steps}
+use Rattle.steps.specs.Count.{quote, total}
+use Rattle.walk.specs.Due.{due}
+use Rattle.walk.specs.Ran.{found}
+use Rattle.matrix.specs.declared.job.Job.{Job}
+use Rattle.matrix.specs.Job.{meant, misfit}
+use Rattle.matrix.specs.Quote.{quoteTests, quoteMeans}
+use Rattle.matrix.specs.Total.{factorTests, totalTests, totalMeans}
+use Rattle.matrix.specs.Turn.{foundTests, turnTests, madeOf, leftOf, turnMeans}
+
+abbrev one : Size
+one = record { rows = 1; columns = 1 }
+
+-- one cell that holds 0, and one that holds 1
+abbrev zero1 : List ℕ
+zero1 = 0 ∷ 0 ∷ []
+
+abbrev one1 : List ℕ
+one1 = 1 ∷ 0 ∷ []
+
+-- a table of two rows of one cell, as opened and as made
+abbrev newTable : List ℕ
+newTable = 0 ∷ 0 ∷ 0 ∷ 0 ∷ []
+
+abbrev madeTable : List ℕ
+madeTable = 0 ∷ 0 ∷ 1 ∷ 0 ∷ []
+
+abbrev job : ℕ → Job
+job d = record { m = 1; l = 1; n = 1; width = 1; done = d }
+
+-- what a turn is handed: record, A, B, table, product, budget; and what it leaves
+abbrev Handed : Type 0
+Handed = Job × List ℕ × List ℕ × List ℕ × List ℕ × ℕ
+
+abbrev Left : Type 0
+Left = Job × (ℕ × (Bool × (List ℕ × List ℕ)))
+
+abbrev means : Handed → ℕ × Left
+means h = turnMeans (h .0) (h .1) (h .2) (h .3) (h .4) (h .5)
+
+abbrev opened : ℕ → Handed
+opened budget = (job 0, one1, one1, newTable, zero1, budget)
+
+abbrev goneOn : Handed
+goneOn = (job 1, one1, one1, madeTable, zero1, 1)
+
+pub record Sums : Type 0 where
+  pub first-step : means (opened 1) ≡ (0, (job 1, (1, (false, (madeTable, zero1)))))
+  pub second-step : means goneOn ≡ (0, (job 2, (1, (true, (madeTable, one1)))))
+  pub both-steps : means (opened 2) ≡ (0, (job 2, (2, (true, (madeTable, one1)))))
+  pub totals : (totalMeans one 1 zero1 ≡ (0, 1)) × (totalMeans one 1 one1 ≡ (0, 2))
+  pub quoted : quoteMeans one 1 ≡ (0, 2)
+
+pub sums : Sums
+unfolding turnMeans turnTests foundTests madeOf leftOf totalMeans totalTests factorTests quoteMeans quoteTests quote total sum meant misfit due found steps blocks blockWidth blockSteps rowSteps tableSteps each many unless0 bitsOf lowestBit cleared put apply run opening answered first left over unfit faults stray padded any unit sign cell bitAt bit planes wide words encode joined plane tab wordOf unitOf signOf add3 sub3 is trailingZeros
+sums = record { first-step = refl; second-step = refl; both-steps = refl; totals = (refl, refl); quoted = refl }
+
+-- ---- turns
+
+-- a turn that answers as its statement says
+module _ (f : Handed → Answer × Left) (meets : (h : Handed) → (number (f h .0), f h .1) ≡ means h) where
+  -- table and product that f leaves
+  abbrev tableLeft : Handed → List ℕ
+  tableLeft h = f h .1 .1 .1 .1 .0
+
+  abbrev productLeft : Handed → List ℕ
+  productLeft h = f h .1 .1 .1 .1 .1
+
+  product-is : (h : Handed) (o : Left) → means h ≡ (0, o) → productLeft h ≡ o .1 .1 .1 .1
+  product-is h o says = ap (λ (v : ℕ × Left). v .1 .1 .1 .1 .1) (meets h ∙ says)
+
+  table-is : (h : Handed) (o : Left) → means h ≡ (0, o) → tableLeft h ≡ o .1 .1 .1 .0
+  table-is h o says = ap (λ (v : ℕ × Left). v .1 .1 .1 .1 .0) (meets h ∙ says)
+
+  one-zero : one1 ≡ zero1 → ⊥
+  one-zero e = let z : _≡_ {A = ℕ} 1 0 = ap (λ (l : List ℕ). getD l 0 0) e in omega arith
+
+  -- it does not only move the record: it writes the table, and it writes the product
+  pub writes-table : ((h : Handed) → tableLeft h ≡ h .3) → ⊥
+  writes-table silent =
+      let e = sym (table-is (opened 1) _ (sums .first-step)) ∙ silent (opened 1) in
+      let z : _≡_ {A = ℕ} 1 0 = ap (λ (l : List ℕ). getD l 2 0) e in
+      omega arith
+
+  pub writes-product : ((h : Handed) → productLeft h ≡ h .4) → ⊥
+  writes-product silent = one-zero (sym (product-is goneOn _ (sums .second-step)) ∙ silent goneOn)
+
+  -- it does not multiply all at once: what the first turn leaves depends on its budget
+  pub not-at-once : ((budget budget′ : ℕ) → productLeft (opened budget) ≡ productLeft (opened budget′)) → ⊥
+  not-at-once eager =
+      one-zero (sym (product-is (opened 2) _ (sums .both-steps)) ∙ eager 2 1 ∙ product-is (opened 1) _ (sums .first-step))
+
+-- ---- totals
+
+module _ (f : Size → ℕ → List ℕ → Answer × ℕ) (meets : (x : Size) (w : ℕ) (a : List ℕ) → (number (f x w a .0), f x w a .1) ≡ totalMeans x w a) where
+  steps-is : (a : List ℕ) (n : ℕ) → totalMeans one 1 a ≡ (0, n) → f one 1 a .1 ≡ n
+  steps-is a n says = ap (λ (v : ℕ × ℕ). v .1) (meets one 1 a ∙ says)
+
+  -- a total does not come from the sizes alone, and so is not the quote either
+  pub not-invented : ((x : Size) (w : ℕ) (a a′ : List ℕ) → f x w a .1 ≡ f x w a′ .1) → ⊥
+  not-invented invents =
+      let z : _≡_ {A = ℕ} 1 2 = sym (steps-is zero1 1 (sums .totals .0)) ∙ invents one 1 zero1 one1 ∙ steps-is one1 2 (sums .totals .1) in
+      omega arith
+
+  pub not-the-quote : ((x : Size) (w : ℕ) (a : List ℕ) → f x w a .1 ≡ quoteMeans x w .1) → ⊥
+  not-the-quote invents =
+      let z : _≡_ {A = ℕ} 1 2 = sym (steps-is zero1 1 (sums .totals .0)) ∙ invents one 1 zero1 ∙ ap (λ (v : ℕ × ℕ). v .1) (sums .quoted) in
+      omega arith
