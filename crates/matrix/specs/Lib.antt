@@ -7,5 +7,6 @@ pub mod Sum
 pub mod Difference
 pub mod Negation
 pub mod Scaling
+pub mod Turned
 pub mod Transpose
 pub mod Tally
