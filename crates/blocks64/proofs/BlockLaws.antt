@@ -1,4 +1,4 @@
--- Words at even distances: written one after another, and turned. Assumes nothing.
+-- Words at equal distances: written one after another, and turned. Assumes nothing.
 use mathlib.Core.Path.{_≡_, refl, sym, ap, _∙_}
 use mathlib.Core.List.{List}
 use Prim.Native.Nat.{ℕ, zero, suc, _+_, _*_, _^_, _≤_, _<_}

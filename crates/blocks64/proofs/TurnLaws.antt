@@ -2,14 +2,14 @@
 use mathlib.Core.Path.{_≡_, refl, sym, ap, ap₂, subst, _∙_}
 use mathlib.Core.Bool.{Bool, true, false, not}
 use mathlib.Core.List.{List, [], _∷_}
-use Prim.Native.Nat.{ℕ, zero, suc, _+_, _-_, _*_, _/_, _%_, _^_, _≤_, _<_, min}
+use Prim.Native.Nat.{ℕ, _+_, _-_, _*_, _/_, _%_, _^_, _≤_, _<_, min}
 use native.Mathlib.Nat.{add-mul, mul-add, one-mul}
 use native.Mathlib.Decide.{decLt}
 use native.Mathlib.Omega.{arith}
 use lib.Arith.{digits-div}
-use lib.Bits.{bitAnd, bitXor, differ}
+use lib.Bits.{bitXor, differ}
 use lib.Dec.{eqb}
-use lib.ListN.{length, getD}
+use lib.ListN.{getD}
 use borrow.Author.Tests.{eqb-true}
 use Rattle.cells.specs.Any.{any}
 use Rattle.cells.specs.Bit.{bit}
@@ -154,9 +154,6 @@ module _ (h m : ℕ) (M : Mask h m) where
   module _ (n : ℕ) (old new : List ℕ) (all : n * (h + h) ≡ 64) (S : Stage h m n old new) where
     same-place : (i s t r : ℕ) → i ≡ s → t ≡ r → bit (getD old i 0) t ≡ bit (getD old s 0) r
     same-place i s t r p q = ap₂ (λ (i t : ℕ). bit (getD old i 0) t) p q
-
-    From : ℕ → Type 0
-    From i = (t : ℕ) → t < 64 → bit (getD new i 0) t ≡ bit (getD old (across h i t) 0) (across h t i)
 
     from-first : (k j : ℕ) → k < n → j < h → (t : ℕ) → t < 64
         → bit (getD new (k * (h + h) + j) 0) t ≡ bit (getD old (across h (k * (h + h) + j) t) 0) (across h t (k * (h + h) + j))

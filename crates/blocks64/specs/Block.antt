@@ -1,4 +1,4 @@
--- Words at even distances, turned from slice to slice. Assumes nothing.
+-- Words at equal distances, turned from slice to slice. Assumes nothing.
 use mathlib.Core.Path.{_≡_}
 use mathlib.Core.List.{List}
 use Prim.Native.Nat.{ℕ, _+_, _*_, _≤_, _<_}

@@ -1,8 +1,7 @@
-// Up to 64 words of one slice, turned into up to 64 words of another. In both the words lie at even distances.
+// Up to 64 words of one slice, turned into up to 64 words of another. In both the words lie at equal distances.
 ghost use mathlib.Core.Path.{_≡_};
 ghost use Prim.Native.Nat.{ℕ, _+_, _*_, _^_, _≤_, _<_};
 ghost use lib.ListN.{length, getD};
-ghost use Rattle.cells.specs.Bit.{bit, wordOf};
 ghost use Rattle.rows.specs.Row.{Written};
 ghost use Rattle.blocks64.specs.Block.{InSteps, Spread, turnedWord};
 use crate::turn::turn;
@@ -39,7 +38,17 @@ fn put(block: &[u64], out: &mut [u64], x: usize, w: usize, n: usize)
     }
 }
 
-fn through(a: &[u64], x: usize, w: usize, n: usize, block: &mut [u64], out: &mut [u64], y: usize, v: usize, m: usize)
+fn through(
+    a: &[u64],
+    x: usize,
+    w: usize,
+    n: usize,
+    block: &mut [u64],
+    out: &mut [u64],
+    y: usize,
+    v: usize,
+    m: usize,
+)
     requires { ⌜ InSteps x w n (length (now a)) × InSteps y v m (length (now out)) × (0 < v) × (length (now block) ≡ 64) × ((t : ℕ) → getD (now block) t 0 ≡ 0) ⌝ }
     ensures { λ _. ⌜ Spread (turnedWord (now (a .entry)) x w n) y v m (now (out .entry)) (now (out .exit)) ⌝ }
 {

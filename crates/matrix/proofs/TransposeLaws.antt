@@ -1,6 +1,6 @@
 -- The rows of a transpose, made block by block, and the tests of `transpose`. Assumes nothing.
-use mathlib.Core.Path.{_≡_, refl, sym, ap, subst, _∙_}
-use mathlib.Core.Bool.{_||_, or-comm}
+use mathlib.Core.Path.{_≡_, refl, sym, ap, _∙_}
+use mathlib.Core.Bool.{or-comm}
 use mathlib.Core.List.{List}
 use Prim.Native.Nat.{ℕ, _+_, _-_, _*_, _%_, _≤_, _<_, min}
 use native.Mathlib.Nat.{add-mul, mul-le-mul}
@@ -8,18 +8,18 @@ use native.Mathlib.Decide.{decLt}
 use native.Mathlib.Omega.{arith}
 use lib.Arith.{digits-mod}
 use lib.Dec.{ltb}
-use lib.ListN.{length, getD}
+use lib.ListN.{getD}
 use Rattle.cells.specs.Bit.{bit, wordOf}
 use Rattle.cells.specs.Pair.{WordPair}
 use Rattle.buffers.specs.Buffer.{planes, wide, words, unit, sign, cell, Legal, encode}
-use Rattle.buffers.proofs.SizeLaws.{planes-le, planes-tight, row-fits, bitAt-word, unit-small, sign-small}
+use Rattle.buffers.proofs.SizeLaws.{planes-le, row-fits, bitAt-word, unit-small, sign-small}
 use Rattle.blocks64.specs.Block.{InSteps, turnedWord, Spread}
 use Rattle.requests.specs.declared.Size.{Size}
 use Rattle.requests.specs.Sizes.{over}
 use Rattle.rows.proofs.MatrixLaws.{RowsMade, rows-all, row-ends}
 use Rattle.matrix.specs.Gathered.{upTo}
 use Rattle.matrix.specs.Transpose.{turned}
-use Rattle.matrix.specs.Turned.{column, WordMade, BlockMade}
+use Rattle.matrix.specs.RowBlocks.{column, WordMade, BlockMade}
 use Rattle.matrix.proofs.GatherLaws.{up-in, up-out, gathered-holds}
 
 -- ---- the words of a block

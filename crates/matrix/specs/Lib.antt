@@ -7,6 +7,6 @@ pub mod Sum
 pub mod Difference
 pub mod Negation
 pub mod Scaling
-pub mod Turned
+pub mod RowBlocks
 pub mod Transpose
 pub mod Tally

@@ -1,10 +1,10 @@
 // The transpose of a matrix, by blocks of 64 rows and 64 columns.
 ghost use mathlib.Core.Path.{_≡_};
-ghost use Prim.Native.Nat.{ℕ, _+_, _-_, _*_, _≤_, _<_, min};
+ghost use Prim.Native.Nat.{_+_, _-_, _*_, _≤_, _<_, min};
 ghost use lib.ListN.{length};
 ghost use Rattle.buffers.specs.Buffer.{planes, words, Legal};
 ghost use Rattle.requests.specs.Answers.{number};
-ghost use Rattle.matrix.specs.Turned.{column, WordMade, BlockMade};
+ghost use Rattle.matrix.specs.RowBlocks.{column, WordMade, BlockMade};
 ghost use Rattle.matrix.specs.Transpose.{transposeOf, transposeMeans};
 use blocks64::block::block;
 use buffers::planes::planes;
@@ -15,7 +15,16 @@ use requests::number;
 use requests::single::judged;
 
 // Word p of the rows of the transpose from row 64 k on, both planes. A plane of the matrix has u words, one of the transpose q.
-fn turn_block(r: usize, c: usize, a: &[u64], out: &mut [u64], k: usize, p: usize, u: usize, q: usize)
+fn turn_block(
+    r: usize,
+    c: usize,
+    a: &[u64],
+    out: &mut [u64],
+    k: usize,
+    p: usize,
+    u: usize,
+    q: usize,
+)
     requires { ⌜ (r ≤ 1024) × (c ≤ 1024) × Legal r c (now a) × (length (now out) ≡ words c r) × (u ≡ planes c) × (q ≡ planes r) × (k < u) × (p < q) ⌝ }
     ensures { λ _. ⌜ WordMade (λ t. column r c (now (a .entry)) (64 * k + t) p) (64 * k * (2 * q)) q p (min 64 (c - 64 * k)) (now (out .entry)) (now (out .exit)) ⌝ }
 {

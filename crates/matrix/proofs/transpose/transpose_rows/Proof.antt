@@ -1,10 +1,9 @@
-use mathlib.Core.Path.{_≡_, refl, subst, _∙_}
-use mathlib.Core.List.{List}
-use Prim.Native.Nat.{ℕ, _+_, _-_, _*_, _≤_, min}
+use mathlib.Core.Path.{_≡_, _∙_}
+use Prim.Native.Nat.{_+_, _-_, _*_, _≤_, min}
 use lib.ListN.{length}
 use Rattle.buffers.proofs.SizeLaws.{planes-room, planes-tight}
 use Rattle.rows.proofs.MatrixLaws.{RowsMade, rows-none}
-use Rattle.matrix.specs.Turned.{column}
+use Rattle.matrix.specs.RowBlocks.{column}
 use Rattle.matrix.specs.Transpose.{transposeOf}
 use Rattle.matrix.proofs.TransposeLaws.{rows-block, transposed}
 use native.Mathlib.Omega.{arith}

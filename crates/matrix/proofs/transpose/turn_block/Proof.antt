@@ -1,5 +1,5 @@
-use mathlib.Core.Path.{_≡_, refl, _∙_}
-use Prim.Native.Nat.{_+_, _*_}
+use mathlib.Core.Path.{refl, _∙_}
+use Prim.Native.Nat.{_+_}
 use Rattle.buffers.proofs.SizeLaws.{planes-le, planes-tight}
 use Rattle.matrix.proofs.TransposeLaws.{block-in, column-holds, word-made}
 use native.Mathlib.Omega.{arith}
@@ -37,12 +37,11 @@ real-requires-2 : tie.Need-real-requires-2
 real-requires-2 c κs = (c .before .before .before .pre .1, omega (arith, planes-tight (c .before .before .before .args .c)))
 
 block-requires : tie.Need-block-requires
-block-requires c κs =
-    (
-      rw (c .before .before .real .ensures) (block-in (c .before .before .before .before .before .args .r) (c .before .before .before .before .before .args .c) (c .before .before .before .before .before .args .p) (c .before .before .before .before .before .args .u) (c .before .before .before .before .before .args .k) _ _ (c .before .before .before .before .before .pre .0) (c .before .before .before .before .before .pre .1) (c .before .before .before .before .before .pre .4) (omega arith) (omega arith) (c .before .before .before .before .before .pre .2 .long) refl),
-      rw (c .before .real2 .ensures) (block-in (c .before .before .before .before .before .args .c) (c .before .before .before .before .before .args .r) (c .before .before .before .before .before .args .k) (c .before .before .before .before .before .args .q) (c .before .before .before .before .before .args .p) _ _ (c .before .before .before .before .before .pre .1) (c .before .before .before .before .before .pre .0) (c .before .before .before .before .before .pre .5) (omega arith) (omega arith) (c .before .before .before .before .before .pre .3) refl),
-      omega arith,
-    )
+block-requires c κs = (
+  rw (c .before .before .real .ensures) (block-in (c .before .before .before .before .before .args .r) (c .before .before .before .before .before .args .c) (c .before .before .before .before .before .args .p) (c .before .before .before .before .before .args .u) (c .before .before .before .before .before .args .k) _ _ (c .before .before .before .before .before .pre .0) (c .before .before .before .before .before .pre .1) (c .before .before .before .before .before .pre .4) (omega arith) (omega arith) (c .before .before .before .before .before .pre .2 .long) refl),
+  rw (c .before .real2 .ensures) (block-in (c .before .before .before .before .before .args .c) (c .before .before .before .before .before .args .r) (c .before .before .before .before .before .args .k) (c .before .before .before .before .before .args .q) (c .before .before .before .before .before .args .p) _ _ (c .before .before .before .before .before .pre .1) (c .before .before .before .before .before .pre .0) (c .before .before .before .before .before .pre .5) (omega arith) (omega arith) (c .before .before .before .before .before .pre .3) refl),
+  omega arith,
+)
 
 add-block : tie.Need-add-block
 add-block c = omega (arith, (block-in (c .before .before .before .before .before .before .before .before .args .r) (c .before .before .before .before .before .before .before .before .args .c) (c .before .before .before .before .before .before .before .before .args .p) (c .before .before .before .before .before .before .before .before .args .u) (c .before .before .before .before .before .before .before .before .args .k) _ _ (c .before .before .before .before .before .before .before .before .pre .0) (c .before .before .before .before .before .before .before .before .pre .1) (c .before .before .before .before .before .before .before .before .pre .4) (omega arith) (omega arith) (c .before .before .before .before .before .before .before .before .pre .2 .long) refl) .start, planes-le _ (c .before .before .before .before .before .before .before .before .pre .1))
@@ -51,12 +50,11 @@ add-block-2 : tie.Need-add-block-2
 add-block-2 c = omega (arith, (block-in (c .before .before .before .before .before .before .before .before .before .args .c) (c .before .before .before .before .before .before .before .before .before .args .r) (c .before .before .before .before .before .before .before .before .before .args .k) (c .before .before .before .before .before .before .before .before .before .args .q) (c .before .before .before .before .before .before .before .before .before .args .p) _ _ (c .before .before .before .before .before .before .before .before .before .pre .1) (c .before .before .before .before .before .before .before .before .before .pre .0) (c .before .before .before .before .before .before .before .before .before .pre .5) (omega arith) (omega arith) (c .before .before .before .before .before .before .before .before .before .pre .3) refl) .start, planes-le _ (c .before .before .before .before .before .before .before .before .before .pre .0))
 
 block-requires-2 : tie.Need-block-requires-2
-block-requires-2 c κs =
-    (
-      rw (c .before .before .before .before .before .before .real .ensures) (block-in (c .before .before .before .before .before .before .before .before .before .args .r) (c .before .before .before .before .before .before .before .before .before .args .c) (c .before .before .before .before .before .before .before .before .before .args .p) (c .before .before .before .before .before .before .before .before .before .args .u) (c .before .before .before .before .before .before .before .before .before .args .k + c .before .before .before .before .before .before .before .before .before .args .u) _ _ (c .before .before .before .before .before .before .before .before .before .pre .0) (c .before .before .before .before .before .before .before .before .before .pre .1) (c .before .before .before .before .before .before .before .before .before .pre .4) (omega arith) (omega arith) (c .before .before .before .before .before .before .before .before .before .pre .2 .long) (omega arith)),
-      rw (c .before .before .before .before .before .real2 .ensures) (block-in (c .before .before .before .before .before .before .before .before .before .args .c) (c .before .before .before .before .before .before .before .before .before .args .r) (c .before .before .before .before .before .before .before .before .before .args .k) (c .before .before .before .before .before .before .before .before .before .args .q) (c .before .before .before .before .before .before .before .before .before .args .p + c .before .before .before .before .before .before .before .before .before .args .q) _ _ (c .before .before .before .before .before .before .before .before .before .pre .1) (c .before .before .before .before .before .before .before .before .before .pre .0) (c .before .before .before .before .before .before .before .before .before .pre .5) (omega arith) (omega arith) (c .before .before .before .block .ensures .long ∙ c .before .before .before .before .before .before .before .before .before .pre .3) (omega arith)),
-      omega arith,
-    )
+block-requires-2 c κs = (
+  rw (c .before .before .before .before .before .before .real .ensures) (block-in (c .before .before .before .before .before .before .before .before .before .args .r) (c .before .before .before .before .before .before .before .before .before .args .c) (c .before .before .before .before .before .before .before .before .before .args .p) (c .before .before .before .before .before .before .before .before .before .args .u) (c .before .before .before .before .before .before .before .before .before .args .k + c .before .before .before .before .before .before .before .before .before .args .u) _ _ (c .before .before .before .before .before .before .before .before .before .pre .0) (c .before .before .before .before .before .before .before .before .before .pre .1) (c .before .before .before .before .before .before .before .before .before .pre .4) (omega arith) (omega arith) (c .before .before .before .before .before .before .before .before .before .pre .2 .long) (omega arith)),
+  rw (c .before .before .before .before .before .real2 .ensures) (block-in (c .before .before .before .before .before .before .before .before .before .args .c) (c .before .before .before .before .before .before .before .before .before .args .r) (c .before .before .before .before .before .before .before .before .before .args .k) (c .before .before .before .before .before .before .before .before .before .args .q) (c .before .before .before .before .before .before .before .before .before .args .p + c .before .before .before .before .before .before .before .before .before .args .q) _ _ (c .before .before .before .before .before .before .before .before .before .pre .1) (c .before .before .before .before .before .before .before .before .before .pre .0) (c .before .before .before .before .before .before .before .before .before .pre .5) (omega arith) (omega arith) (c .before .before .before .block .ensures .long ∙ c .before .before .before .before .before .before .before .before .before .pre .3) (omega arith)),
+  omega arith,
+)
 
 same-length : tie.Need-same-length
 same-length c = c .before .before .block2 .ensures .long ∙ c .before .before .before .before .before .before .block .ensures .long

@@ -1,6 +1,6 @@
 use mathlib.Core.Path.{_≡_, subst, _∙_}
 use Prim.Native.Nat.{ℕ, _+_, _-_, _*_, _≤_, min}
-use Rattle.matrix.specs.Turned.{column, BlockMade}
+use Rattle.matrix.specs.RowBlocks.{column, BlockMade}
 use Rattle.matrix.proofs.TransposeLaws.{block-none, block-next}
 use native.Mathlib.Omega.{arith}
 use Rattle.matrix.proofs.transpose.turn_rows.Statement.{statement}
