@@ -7,6 +7,7 @@ pub mod Sum
 pub mod Difference
 pub mod Negation
 pub mod Scaling
+pub mod RowBlocks
 pub mod Transpose
 pub mod Tally
 pub mod Job

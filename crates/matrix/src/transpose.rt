@@ -1,56 +1,50 @@
-// The transpose of a matrix.
+// The transpose of a matrix, by blocks of 64 rows and 64 columns.
 ghost use mathlib.Core.Path.{_≡_};
-ghost use Prim.Native.Nat.{ℕ, _+_, _-_, _*_, _≤_, _<_, min};
-ghost use lib.ListN.{length, getD};
-ghost use Rattle.cells.specs.Bit.{bit, wordOf};
-ghost use Rattle.buffers.specs.Buffer.{planes, words, cell, Legal};
+ghost use Prim.Native.Nat.{_+_, _-_, _*_, _≤_, _<_, min};
+ghost use lib.ListN.{length};
+ghost use Rattle.buffers.specs.Buffer.{planes, words, Legal};
 ghost use Rattle.requests.specs.Answers.{number};
-ghost use Rattle.rows.specs.Row.{Made};
-ghost use Rattle.matrix.specs.Gathered.{upTo};
+ghost use Rattle.matrix.specs.RowBlocks.{column, WordMade, BlockMade};
 ghost use Rattle.matrix.specs.Transpose.{transposeOf, transposeMeans};
+use blocks64::block::block;
 use buffers::planes::planes;
 use buffers::planes::real;
-use cells::Cells;
 use requests::Answer;
 use requests::Size;
 use requests::number;
 use requests::single::judged;
-use rows::words::store;
 
-// The bits at place b of n pairs of words, each w words after the last, from the pair at word x on. The highest comes first: each bit
-// then costs a doubling and a sum.
-fn gathered(a: &[u64], q: usize, w: usize, x: usize, b: usize, n: usize) -> Cells
-    requires { ⌜ (b < 64) × (n ≤ 64) × (w ≤ 32) × (x ≤ 32768) × ((t : ℕ) → t < n → x + t * w + q < length (now a)) ⌝ }
-    ensures { λ r. ⌜ (r .unit ≡ wordOf (λ t. bit (getD (now (a .entry)) (x + t * w) 0) b) n) × (r .sign ≡ wordOf (λ t. bit (getD (now (a .entry)) (x + t * w + q) 0) b) n) ⌝ }
+// Word p of the rows of the transpose from row 64 k on, both planes. A plane of the matrix has u words, one of the transpose q.
+fn turn_block(
+    r: usize,
+    c: usize,
+    a: &[u64],
+    out: &mut [u64],
+    k: usize,
+    p: usize,
+    u: usize,
+    q: usize,
+)
+    requires { ⌜ (r ≤ 1024) × (c ≤ 1024) × Legal r c (now a) × (length (now out) ≡ words c r) × (u ≡ planes c) × (q ≡ planes r) × (k < u) × (p < q) ⌝ }
+    ensures { λ _. ⌜ WordMade (λ t. column r c (now (a .entry)) (64 * k + t) p) (64 * k * (2 * q)) q p (min 64 (c - 64 * k)) (now (out .entry)) (now (out .exit)) ⌝ }
 {
-    let mut unit: u64 = 0;
-    let mut sign: u64 = 0;
-    let mut t = n;
-    while 0 < t {
-        let i = t - 1;
-        let at = x + i * w;
-        unit = unit * 2 + (a[at] >> (b as u64)) % 2;
-        sign = sign * 2 + (a[at + q] >> (b as u64)) % 2;
-        t = i;
-    }
-    Cells {
-        unit: unit,
-        sign: sign,
-    }
+    let w = 2 * u;
+    let v = 2 * q;
+    let x = 64 * p * w + k;
+    let y = 64 * k * v + p;
+    let n = real(r, p);
+    let m = real(c, k);
+    block(a, x, w, n, out, y, v, m);
+    block(a, x + u, w, n, out, y + q, v, m);
 }
 
-// Row j of the transpose, at word x, of which each plane has q words.
-fn transpose_row(r: usize, c: usize, a: &[u64], out: &mut [u64], j: usize, x: usize, q: usize)
-    requires { ⌜ (r ≤ 1024) × (c ≤ 1024) × Legal r c (now a) × (j < c) × (q ≡ planes r) × (x + (q + q) ≤ length (now out)) ⌝ }
-    ensures { λ _. ⌜ Made (λ p. upTo (min 64 (r - 64 * p)) (λ t. cell c (now (a .entry)) (64 * p + t) j)) x q q (now (out .entry)) (now (out .exit)) ⌝ }
+fn turn_rows(r: usize, c: usize, a: &[u64], out: &mut [u64], k: usize, u: usize, q: usize)
+    requires { ⌜ (r ≤ 1024) × (c ≤ 1024) × Legal r c (now a) × (length (now out) ≡ words c r) × (u ≡ planes c) × (q ≡ planes r) × (k < u) ⌝ }
+    ensures { λ _. ⌜ BlockMade (λ t. column r c (now (a .entry)) (64 * k + t)) (64 * k * (2 * q)) q (min 64 (c - 64 * k)) q (now (out .entry)) (now (out .exit)) ⌝ }
 {
-    let k = planes(c);
-    let w = 2 * k;
     let mut p = 0;
     while p < q {
-        let from = 64 * p * w + j / 64;
-        let v = gathered(a, k, w, from, j % 64, real(r, p));
-        store(out, q, x + p, v);
+        turn_block(r, c, a, out, k, p, u, q);
         p += 1;
     }
 }
@@ -59,12 +53,12 @@ fn transpose_rows(r: usize, c: usize, a: &[u64], out: &mut [u64])
     requires { ⌜ (r ≤ 1024) × (c ≤ 1024) × Legal r c (now a) × (length (now out) ≡ words c r) ⌝ }
     ensures { λ _. ⌜ now (out .exit) ≡ transposeOf r c (now (a .entry)) ⌝ }
 {
+    let u = planes(c);
     let q = planes(r);
-    let w = 2 * q;
-    let mut i = 0;
-    while i < c {
-        transpose_row(r, c, a, out, i, i * w, q);
-        i += 1;
+    let mut k = 0;
+    while k < u {
+        turn_rows(r, c, a, out, k, u, q);
+        k += 1;
     }
 }
 

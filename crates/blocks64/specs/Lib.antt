@@ -1,0 +1,3 @@
+pub mod Exchange
+pub mod Turn
+pub mod Block
