@@ -1,5 +1,6 @@
 // Runs what document 01 lists without a star, one line each: a label and what came back. The file stdout has what the document says.
 mod empty;
+mod jobs;
 mod limits;
 mod show;
 
@@ -9,4 +10,7 @@ fn main() {
     empty::matrices();
     empty::bytes();
     empty::tally();
+    jobs::quotes();
+    jobs::no_middle();
+    jobs::no_columns();
 }

@@ -1,0 +1,100 @@
+// Quotes, and jobs of no column in A or in B.
+use super::show::answer;
+use super::show::value;
+use requests::Size;
+
+fn size(rows: u64, columns: u64) -> Size {
+    Size {
+        rows: rows,
+        columns: columns,
+    }
+}
+
+pub fn quotes() {
+    value(
+        b"quote 2 by 3, width 1:",
+        matrix::quote::quote(size(2, 3), 1).steps,
+    );
+    value(
+        b"quote 2 by 3, width 2:",
+        matrix::quote::quote(size(2, 3), 2).steps,
+    );
+    value(
+        b"quote 2 by 3, width 3:",
+        matrix::quote::quote(size(2, 3), 3).steps,
+    );
+    value(
+        b"quote 2 by 3, width 8:",
+        matrix::quote::quote(size(2, 3), 8).steps,
+    );
+    value(
+        b"quote 1024 by 1024, width 2:",
+        matrix::quote::quote(size(1024, 1024), 2).steps,
+    );
+    let widest = matrix::quote::quote(size(2, 3), 8).answer;
+    answer(b"quote, width 8:", widest);
+    let wider = matrix::quote::quote(size(2, 3), 9).answer;
+    answer(b"quote, width 9:", wider);
+}
+
+// A has no column: the product holds noise before.
+pub fn no_middle() {
+    let none = [0u64; 1];
+    let more = [0u64; 1];
+    let mut table = [5u64; 32];
+    let mut product = [7u64; 4];
+    let a = size(2, 0);
+    let b = size(0, 2);
+    value(
+        b"total, l = 0:",
+        matrix::total::total(a, 4, &none[0..0]).steps,
+    );
+    answer(
+        b"product, l = 0:",
+        matrix::product::product(a, b, 4, &none[0..0], &more[0..0], &mut table, &mut product),
+    );
+    value(
+        b"its words together:",
+        product[0] | product[1] | product[2] | product[3],
+    );
+}
+
+// B has no column: the sample's A at width 2.
+pub fn no_columns() {
+    let a = [3u64, 2, 6, 2];
+    let b = [0u64; 1];
+    let mut table = [0u64; 1];
+    let mut product = [0u64; 1];
+    let opened = matrix::opening::opening(
+        size(2, 3),
+        size(3, 0),
+        2,
+        &a,
+        &b[0..0],
+        &mut table[0..0],
+        &mut product[0..0],
+    );
+    let said = opened.answer;
+    answer(b"opening, n = 0:", said);
+    let one = matrix::turn::turn(
+        opened.job,
+        &a,
+        &b[0..0],
+        &mut table[0..0],
+        &mut product[0..0],
+        5,
+    );
+    value(b"steps of a turn with budget 5:", one.made);
+    value(b"finished:", one.finished as u64);
+    let two = matrix::turn::turn(
+        one.job,
+        &a,
+        &b[0..0],
+        &mut table[0..0],
+        &mut product[0..0],
+        5,
+    );
+    value(b"steps of the next:", two.made);
+    value(b"steps done:", two.job.done);
+    value(b"finished:", two.finished as u64);
+}
