@@ -10,7 +10,7 @@ use lib.Dec.{ltb, eqb}
 use lib.ListN.{length}
 use borrow.Author.Tests.{le-ltb, eq-eqb, ne-eqb}
 use Rattle.cells.specs.Digit.{Matrix}
-use Rattle.buffers.specs.Buffer.{words, cell, Legal, encode}
+use Rattle.buffers.specs.Buffer.{planes, words, cell, Legal, tab, joined, plane, encode}
 use Rattle.buffers.proofs.SizeLaws.{cell-lt}
 use Rattle.buffers.proofs.BufferLaws.{tests-legal, cell-encode, encode-legal, encode-within}
 use Rattle.requests.specs.declared.Size.{Size}
@@ -18,7 +18,7 @@ use Rattle.requests.specs.declared.Answer.{Answer}
 use Rattle.requests.specs.Answers.{number, first, answered}
 use Rattle.requests.specs.Sizes.{over, unfit, faults}
 use Rattle.requests.proofs.AnswerLaws.{None, none-first, append-none, append-front, later, finished, done-makes}
-use Rattle.steps.specs.Matrix.{schoolbook}
+use Rattle.steps.specs.Matrix.{sum, schoolbook}
 use Rattle.steps.specs.Step.{Step, State, run, opening}
 use Rattle.steps.specs.StepList.{steps}
 use Rattle.steps.specs.Count.{quote, total}
@@ -156,6 +156,13 @@ module _ (x y : Size) (w : ℕ) (a b : List ℕ) (hm : x .rows ≤ 1024) (hl : x
   pub accepted : (d budget : ℕ) (job : Job) (t p : List ℕ) → d ≤ long → Stands d job t p → turnMeans job a b t p budget .0 ≡ 0
   accepted d budget job t p h S = ap (λ (o : ℕ × (Job × (ℕ × (Bool × (List ℕ × List ℕ))))). o .0) (meaning d budget job t p S ∙ turn-at d budget h)
 
+  -- a turn after the end makes no step
+  pub at-end : (budget : ℕ) → turnMeans (jobAt long) a b (tableAt long) (productAt long) budget ≡ (0, (jobAt long, (0, (true, (tableAt long, productAt long)))))
+  at-end budget =
+      let z : makes long budget ≡ 0 = omega arith in
+      let s : long + 0 ≡ long = omega arith in
+      turn-at long budget (omega arith) ∙ rw (z, s, eq-eqb long long refl)
+
   Outcome : Type 0
   Outcome = ℕ × (Job × (ℕ × (Bool × (List ℕ × List ℕ))))
 
@@ -251,6 +258,13 @@ module _ (x y : Size) (w : ℕ) (a b t p : List ℕ) (r : Answer) (job₀ : Job)
     pub demand-3-goes-on : (budget : ℕ) → turnMeans job₁ a b t₁ p₁ budget .0 ≡ 0
     demand-3-goes-on budget = accepted x y w a b (facts .m) (facts .l) (facts .n) (facts .width) (facts .left) (facts .right) reached budget job₁ t₁ p₁ (omega arith) demand-3
 
+    -- after the end a turn is accepted, makes no step and writes nothing
+    pub demand-3-ended : totalOf x (meant w) a ≤ allBudgets budgets → (budget : ℕ) → turnMeans job₁ a b t₁ p₁ budget ≡ (0, (job₁, (0, (true, (t₁, p₁)))))
+    demand-3-ended h budget =
+        let e : reached ≡ totalOf x (meant w) a = omega arith in
+        let S = subst (λ (d : ℕ). Standing d job₁ t₁ p₁) e demand-3 in
+        rw (S .record-is, S .table-is, S .product-is) (at-end x y w a b (facts .m) (facts .l) (facts .n) (facts .width) (facts .left) (facts .right) budget)
+
   -- the length never exceeds the quote
   pub demand-3-quote : totalOf x (meant w) a ≤ quote (x .rows) (x .columns) (meant w)
   demand-3-quote = total-le (x .rows) (x .columns) (meant w) (cell (x .columns) a)
@@ -264,3 +278,22 @@ product-right x y w a b t p r t₁ p₁ says ok =
     let e = done-makes (openingTests x y w a b (length t) (length p)) _ _ (t₁, p₁) (rw ok at says) in
     ap (λ (o : List ℕ × List ℕ). o .1) (e .1)
     ∙ encode-within (x .rows) (y .columns) _ _ (λ i j h q. steps-right (x .rows) (x .columns) (cell (x .columns) a) (cell (y .columns) b) (λ i j _ _. cell-lt (x .columns) a i j) (meant w) (meant-pos w) i h j)
+
+-- so it is equal for every width
+pub widths-agree : (x y : Size) (w w′ : ℕ) (a b t p t′ p′ : List ℕ) (r r′ : Answer) (t₁ p₁ t₂ p₂ : List ℕ)
+    → (number r, (t₁, p₁)) ≡ productMeans x y w a b t p → number r ≡ 0 → (number r′, (t₂, p₂)) ≡ productMeans x y w′ a b t′ p′ → number r′ ≡ 0 → p₁ ≡ p₂
+widths-agree x y w w′ a b t p t′ p′ r r′ t₁ p₁ t₂ p₂ says ok says′ ok′ =
+    product-right x y w a b t p r t₁ p₁ says ok ∙ sym (product-right x y w′ a b t′ p′ r′ t₂ p₂ says′ ok′)
+
+-- ---- no columns
+
+-- A has none: there is no step (Counts.no-columns), and the product is zero
+pub no-middle : (m n : ℕ) (A B : Matrix) → encode m n (schoolbook 0 A B) ≡ encode m n (λ i j. 0)
+unfolding schoolbook sum
+no-middle m n A B = refl
+
+-- B has none: the total is still that of A, and every buffer of no columns is empty
+pub no-words : (r : ℕ) (M : Matrix) → encode r 0 M ≡ []
+unfolding encode joined plane tab planes
+no-words zero M = refl
+no-words (suc r) M = no-words r (λ i. M (suc i))
