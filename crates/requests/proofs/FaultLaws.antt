@@ -2,14 +2,17 @@
 use mathlib.Core.Path.{_≡_, refl, sym, ap, _∙_}
 use mathlib.Core.Bool.{Bool, true, false, _||_}
 use mathlib.Core.List.{List}
-use Prim.Native.Nat.{ℕ, zero, suc, _+_, _*_, _≤_, _<_}
+use Prim.Native.Nat.{ℕ, zero, suc, _+_, _*_, _^_, _≤_, _<_}
 use native.Mathlib.Numerals.{add-one}
 use native.Mathlib.Omega.{arith}
+use lib.Bits.{bitOr}
 use Rattle.cells.specs.Any.{any}
 use Rattle.cells.proofs.AnyLaws.{any-more, or-yes}
 use Rattle.buffers.specs.Buffer.{planes, wide, unit, sign, cell}
 use Rattle.buffers.specs.Fault.{stray, padded}
-use Rattle.rows.specs.Fault.{strayRow, paddedRow}
+use Rattle.buffers.proofs.SizeLaws.{planes-room}
+use Rattle.rows.specs.Fault.{strayRow, paddedRow, Found}
+use Rattle.rows.proofs.FaultLaws.{or-none, stray-fewer}
 
 -- a test that goes row by row
 module _ (f : ℕ → Bool) where
@@ -33,6 +36,13 @@ module _ (ws : List ℕ) (c q : ℕ) (e : q ≡ planes c) where
   pub stray-stop : (i r : ℕ) → i < r → strayRow ws (i * (2 * q)) q c ≡ true → true ≡ stray r c ws
   unfolding stray strayRow unit sign wide
   stray-stop i r l k = stop _ i r l (rw e at k)
+
+  -- the words in which the strays of the rows are gathered
+  pub strays-next : (i w v : ℕ) → w < 2 ^ 64 → v < 2 ^ 64 → (w ≡ 0 → stray i c ws ≡ false) → Found v (strayRow ws (i * (2 * q)) q (64 * q))
+      → bitOr w v ≡ 0 → stray (i + 1) c ws ≡ false
+  strays-next i w v hw hv h F z =
+      let both = or-none w v hw hv z in
+      stray-next i (h (both .0)) (stray-fewer ws (i * (2 * q)) q c (64 * q) (omega (arith, planes-room c)) (F .none (both .1)))
 
   pub padded-begin : padded 0 c ws ≡ false
   unfolding padded any

@@ -11,7 +11,7 @@ use lib.Bits.{bitAnd, bitOr, bitXor, differ, and-lt, xor-lt}
 use Rattle.cells.specs.Any.{any}
 use Rattle.cells.specs.Bit.{bit}
 use Rattle.cells.specs.Pair.{digit, LegalPair}
-use Rattle.cells.proofs.AnyLaws.{any-at, any-split, any-cong, or-yes}
+use Rattle.cells.proofs.AnyLaws.{any-none, any-at, any-split, any-cong, or-yes}
 use Rattle.cells.proofs.BitLaws.{bit-lt, bit-and, bit-or, bit-xor}
 use Rattle.cells.proofs.WordLaws.{ext, bit-high, bit-of-zero}
 use Rattle.cells.proofs.MaskLaws.{low-in}
@@ -24,7 +24,7 @@ use Rattle.rows.specs.Fault.{strayRow, paddedRow, Found}
 
 -- ---- words in which faults are gathered
 
-or-none : (a b : ℕ) → a < 2 ^ 64 → b < 2 ^ 64 → bitOr a b ≡ 0 → (a ≡ 0) × (b ≡ 0)
+pub or-none : (a b : ℕ) → a < 2 ^ 64 → b < 2 ^ 64 → bitOr a b ≡ 0 → (a ≡ 0) × (b ≡ 0)
 or-none a b ha hb e = (
   ext 64 a 0 ha (omega arith) (λ t l. omega (arith, low t, bit-of-zero t)),
   ext 64 b 0 hb (omega arith) (λ t l. omega (arith, low t, bit-of-zero t)),
@@ -89,6 +89,11 @@ strays-more ws x q p w u s hw hu hs eu es F =
     let g : any 64 (λ t. ltb (bit u t) (bit s t)) ≡ pairStray ws x q p 64 = rw (eu, es) in
     rw (e, stray-pair ws x q p 64 (omega arith), ← g)
     (found-more w (bitAnd s (bitXor s u)) (strayRow ws x q (64 * p)) (any 64 (λ t. ltb (bit u t) (bit s t))) hw (and-lt 64 s (bitXor s u) hs (xor-lt 64 s u hs hu)) F (found-word u s hu hs))
+
+-- no stray sign in n columns, so none in fewer
+pub stray-fewer : (ws : List ℕ) (x q c n : ℕ) → c ≤ n → strayRow ws x q n ≡ false → strayRow ws x q c ≡ false
+unfolding strayRow
+stray-fewer ws x q c n l h = any-none _ c (λ j k. any-at _ n h j (omega arith))
 
 -- ---- the whole row, of which the last pair is pair l
 

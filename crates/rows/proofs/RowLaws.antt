@@ -29,6 +29,9 @@ made-cong f g x q n old new e M = record {
   after = M .after;
 }
 
+pub made-count : (f : ℕ → ℕ → ℕ) (x q m n : ℕ) (old new : List ℕ) → m ≡ n → Made f x q m old new → Made f x q n old new
+made-count f x q m n old new e M = subst (λ (k : ℕ). Made f x q k old new) e M
+
 pub made-store : (f : ℕ → ℕ → ℕ) (x q : ℕ) (old : List ℕ) (u s : ℕ) → 0 < q → x + q < length old → WordPair (f 0) u s → Made f x q 1 old (set (set old x u) (x + q) s)
 made-store f x q old u s pos room w = record {
   long = simp length-set;
@@ -130,6 +133,33 @@ digitAt-later a x q j p t =
     let f : x + j + q + p ≡ x + q + (j + p) = omega arith in
     digitAt-by a a (x + j) x q p (j + p) (ap (λ (k : ℕ). getD a k 0) e) (ap (λ (k : ℕ). getD a k 0) f) t
 
+-- ---- from part to part: m pairs from pair j on
+
+pub readable-part : (q n j m y k : ℕ) (a : List ℕ) → k ≡ y + j → j + m ≤ n → Readable q n y a → Readable q m k a
+unfolding LegalRow
+readable-part q n j m y k a e h R = record { room = omega (arith, R .room); legal = λ p l. go p l }
+  where
+    go : (p : ℕ) → p < m → LegalPair (getD a (k + p) 0) (getD a (k + q + p) 0)
+    go p l =
+        let d : k + p ≡ y + (j + p) = omega arith in
+        let i : k + q + p ≡ y + q + (j + p) = omega arith in
+        rw (d, i) (R .legal (j + p) (omega arith))
+
+made-on : (f g : ℕ → ℕ → ℕ) (x q j m n : ℕ) (old mid new : List ℕ) → n ≡ j + m → n ≤ q → ((p t : ℕ) → g p t ≡ f (j + p) t)
+    → Made f x q j old mid → Made g (x + j) q m mid new → Made f x q n old new
+made-on f g x q j m n old mid new e h same M N =
+    made-count f x q (j + m) n old new (sym e) (made-more f g x q j m old mid new (omega arith) (λ p t l. same p t) M N)
+
+pub more1 : (op : ℕ → ℕ) (q : ℕ) (a : List ℕ) (x y j m n : ℕ) (old mid new : List ℕ) → n ≡ j + m → n ≤ q
+    → Made (of1 op q a y) x q j old mid → Made (of1 op q a (y + j)) (x + j) q m mid new → Made (of1 op q a y) x q n old new
+unfolding of1
+more1 op q a x y j m n old mid new e h = made-on _ _ x q j m n old mid new e h (λ p t. ap op (digitAt-later a y q j p t))
+
+pub more2 : (op : ℕ → ℕ → ℕ) (q : ℕ) (a b : List ℕ) (x y z j m n : ℕ) (old mid new : List ℕ) → n ≡ j + m → n ≤ q
+    → Made (of2 op q a y b z) x q j old mid → Made (of2 op q a (y + j) b (z + j)) (x + j) q m mid new → Made (of2 op q a y b z) x q n old new
+unfolding of2
+more2 op q a b x y z j m n old mid new e h = made-on _ _ x q j m n old mid new e h (λ p t. ap₂ op (digitAt-later a y q j p t) (digitAt-later b z q j p t))
+
 -- ---- in place: the pairs that are still to be read are as they were
 
 module _ (q n x y z : ℕ) (t b : List ℕ) (R : InPlace q n x y z t b) (f : ℕ → ℕ → ℕ) (j : ℕ) (mid : List ℕ) (M : Made f x q j t mid) where
@@ -149,20 +179,19 @@ module _ (q n x y z : ℕ) (t b : List ℕ) (R : InPlace q n x y z t b) (f : ℕ
       let fits : n ≤ q = R .fits in
       let long : length mid ≡ length t = M .long in
       let first-room : y + q + n ≤ length t = R .first .room in
-      let second-room : z + q + n ≤ length b = R .second .room in
       record {
         fits = omega arith;
         room = omega (arith, R .room);
-        first = record { room = omega arith; legal = λ p l. row y mid t p (kept-unit (j + p) (omega arith) (omega arith)) (kept-sign (j + p) (omega arith) (omega arith)) (R .first .legal (j + p) (omega arith)) };
-        second = record { room = omega arith; legal = λ p l. row z b b p refl refl (R .second .legal (j + p) (omega arith)) };
+        first = record { room = omega arith; legal = λ p l. row p (kept-unit (j + p) (omega arith) (omega arith)) (kept-sign (j + p) (omega arith) (omega arith)) (R .first .legal (j + p) (omega arith)) };
+        second = readable-part q n j m z (z + j) b refl h (R .second);
         apart = ⊎-elim (λ e. inl (omega arith)) (λ e. inr (omega arith)) (R .apart);
       }
     where
-      row : (w : ℕ) (new old : List ℕ) (p : ℕ) → getD new (w + (j + p)) 0 ≡ getD old (w + (j + p)) 0 → getD new (w + q + (j + p)) 0 ≡ getD old (w + q + (j + p)) 0
-          → LegalPair (getD old (w + (j + p)) 0) (getD old (w + q + (j + p)) 0) → LegalPair (getD new (w + j + p) 0) (getD new (w + j + q + p) 0)
-      row w new old p e g L =
-          let a : w + j + p ≡ w + (j + p) = omega arith in
-          let c : w + j + q + p ≡ w + q + (j + p) = omega arith in
+      row : (p : ℕ) → getD mid (y + (j + p)) 0 ≡ getD t (y + (j + p)) 0 → getD mid (y + q + (j + p)) 0 ≡ getD t (y + q + (j + p)) 0
+          → LegalPair (getD t (y + (j + p)) 0) (getD t (y + q + (j + p)) 0) → LegalPair (getD mid (y + j + p) 0) (getD mid (y + j + q + p) 0)
+      row p e g L =
+          let a : y + j + p ≡ y + (j + p) = omega arith in
+          let c : y + j + q + p ≡ y + q + (j + p) = omega arith in
           rw (a, c, e, g) L
 
   later-same : (op : ℕ → ℕ → ℕ) (m : ℕ) → j + m ≤ n → (p k : ℕ) → p < m → of2 op q mid (y + j) b (z + j) p k ≡ of2 op q t y b z (j + p) k
@@ -191,22 +220,17 @@ next op q n x y z t b j m mid new R h M N =
 pub last : (op : ℕ → ℕ → ℕ) (q x y z : ℕ) (t b : List ℕ) (j : ℕ) (mid new : List ℕ) → InPlace q q x y z t b → j ≤ q
     → Made (of2 op q t y b z) x q j t mid → Made (of2 op q mid (y + j) b (z + j)) (x + j) q (q - j) mid new → Made (of2 op q t y b z) x q q t new
 last op q x y z t b j mid new R h M N =
-    let e : j + (q - j) ≡ q = omega arith in
-    subst (λ (n : ℕ). Made (of2 op q t y b z) x q n t new) e (next op q q x y z t b j (q - j) mid new R (omega arith) M N)
+    made-count (of2 op q t y b z) x q (j + (q - j)) q t new (omega arith) (next op q q x y z t b j (q - j) mid new R (omega arith) M N)
 
 -- fewer pairs
 pub fewer : (q n m x y z : ℕ) (t b : List ℕ) → m ≤ n → InPlace q n x y z t b → InPlace q m x y z t b
-unfolding LegalRow
-fewer q n m x y z t b h R =
-    let a : y + q + n ≤ length t = R .first .room in
-    let d : z + q + n ≤ length b = R .second .room in
-    record {
-      fits = omega (arith, R .fits);
-      room = omega (arith, R .room);
-      first = record { room = omega arith; legal = λ p l. R .first .legal p (omega arith) };
-      second = record { room = omega arith; legal = λ p l. R .second .legal p (omega arith) };
-      apart = R .apart;
-    }
+fewer q n m x y z t b h R = record {
+  fits = omega (arith, R .fits);
+  room = omega (arith, R .room);
+  first = readable-part q n 0 m y y t (omega arith) (omega arith) (R .first);
+  second = readable-part q n 0 m z z b (omega arith) (omega arith) (R .second);
+  apart = R .apart;
+}
 
 -- ---- a row that was made can be read, and so can a row before it
 

@@ -42,6 +42,11 @@ pub record Readable (q n x : ℕ) (ws : List ℕ) : Type 0 where
   pub room : x + q + n ≤ length ws
   pub legal : LegalRow ws x q n
 
+-- n pairs can be written at word x: they lie within the slice, and unit words do not reach sign words
+pub record Writable (q n x : ℕ) (ws : List ℕ) : Type 0 where
+  pub fits : n ≤ q
+  pub room : x + q + n ≤ length ws
+
 -- n pairs can be made in place at word x of t, of those at y of t and those at z of b: row y is row x itself or lies before it
 pub record InPlace (q n x y z : ℕ) (t b : List ℕ) : Type 0 where
   pub fits : n ≤ q

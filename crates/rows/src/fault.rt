@@ -13,7 +13,7 @@ pub enum Finding {
 }
 
 // The sign bits without unit of the first n pairs, all laid over one another: no test in the loop, so that it becomes vector code.
-fn strays(a: &[u64], q: usize, n: usize, x: usize) -> u64
+pub fn strays(a: &[u64], q: usize, n: usize, x: usize) -> u64
     requires { ⌜ (n ≤ q) × (x + (q + q) ≤ length (now a)) ⌝ }
     ensures { λ r. ⌜ Found r (strayRow (now (a .entry)) x q (64 * n)) ⌝ }
 {

@@ -1,52 +1,71 @@
-use mathlib.Core.Path.{_≡_, refl, subst}
-use Prim.Native.Nat.{ℕ, _+_, _-_, _≤_}
+use mathlib.Core.Path.{refl, _∙_}
+use Prim.Native.Nat.{_+_, _-_, _≤_}
 use Rattle.cells.specs.Digit.{neg3}
 use Rattle.rows.specs.Row.{of1, Made}
-use Rattle.rows.proofs.RowLaws.{made-none, made-next, load-legal, pair1}
+use Rattle.rows.proofs.RowLaws.{made-none, readable-part, more1}
 use native.Mathlib.Omega.{arith}
 use Rattle.rows.proofs.negation.negation.Statement.{statement}
 use Rattle.rows.proofs.negation.negation.Tie as tie
 
 abbrev Inv-loop : tie.InvT-loop
-Inv-loop out₀ a q x y p₀ out p = (p ≤ q) × Made (of1 neg3 q a y) x q p out₀ out
+Inv-loop out₀ a q x y j₀ out j = (j ≤ q) × Made (of1 neg3 q a y) x q j out₀ out
 
 abbrev μ-loop : tie.MeasureT-loop
-μ-loop out₀ a q x y p₀ out p = q - p
+μ-loop out₀ a q x y j₀ out j = q - j
 
 loop-holds : tie.Need-loop-holds Inv-loop μ-loop
 loop-holds c = (omega arith, made-none _ _ _ _)
 
-add-load : tie.Need-add-load Inv-loop μ-loop
-add-load c = omega (arith, c .before .before .before .before .pre .1 .room)
+add-loop : tie.Need-add-loop Inv-loop μ-loop
+add-loop c = omega arith
 
-load-requires : tie.Need-load-requires Inv-loop μ-loop
-load-requires c κs = omega (arith, c .before .before .before .before .pre .1 .room)
+add-negation-two : tie.Need-add-negation-two Inv-loop μ-loop
+add-negation-two c = omega arith
 
-add-store : tie.Need-add-store Inv-loop μ-loop
-add-store c = omega arith
+add-negation-two-2 : tie.Need-add-negation-two-2 Inv-loop μ-loop
+add-negation-two-2 c = omega (arith, c .before .before .before .before .before .pre .1 .room)
 
-negation-requires : tie.Need-negation-requires Inv-loop μ-loop
-negation-requires c κs = load-legal (c .before .before .before .before .before .before .args .a .now) (c .before .before .before .before .before .before .args .y) (c .before .before .before .before .before .before .args .q) (c .before .before .before .before .before .before .args .q) (c .before .before .before .loop .p) _ _ _ (c .before .before .before .before .before .before .pre .1 .legal) (omega arith) refl (c .before .load .ensures .0) (c .before .load .ensures .1)
+negation-two-requires : tie.Need-negation-two-requires Inv-loop μ-loop
+negation-two-requires c κs = (record { fits = omega arith; room = omega (arith, c .before .before .loop .inv .1 .long) }, readable-part (c .before .before .before .before .before .args .q) (c .before .before .before .before .before .args .q) (c .before .before .loop .j) 2 (c .before .before .before .before .before .args .y) _ _ refl (omega arith) (c .before .before .before .before .before .pre .1))
 
-store-requires : tie.Need-store-requires Inv-loop μ-loop
-store-requires c κs = omega (arith, c .before .before .before .before .loop .inv .1 .long)
+add-i : tie.Need-add-i Inv-loop μ-loop
+add-i c = omega arith
 
-add-p : tie.Need-add-p Inv-loop μ-loop
-add-p c = omega arith
+add-negation-two-3 : tie.Need-add-negation-two-3 Inv-loop μ-loop
+add-negation-two-3 c = omega arith
+
+add-negation-two-4 : tie.Need-add-negation-two-4 Inv-loop μ-loop
+add-negation-two-4 c = omega (arith, c .before .before .before .before .before .before .before .before .before .pre .1 .room)
+
+negation-two-requires-2 : tie.Need-negation-two-requires-2 Inv-loop μ-loop
+negation-two-requires-2 c κs = (record { fits = omega arith; room = omega (arith, c .before .before .before .before .before .before .loop .inv .1 .long, c .before .before .before .negation-two .ensures .long) }, readable-part (c .before .before .before .before .before .before .before .before .before .args .q) (c .before .before .before .before .before .before .before .before .before .args .q) (c .before .before .before .before .before .before .loop .j + 2) 2 (c .before .before .before .before .before .before .before .before .before .args .y) _ _ refl (omega arith) (c .before .before .before .before .before .before .before .before .before .pre .1))
+
+add-j : tie.Need-add-j Inv-loop μ-loop
+add-j c = omega arith
 
 loop-less : tie.Need-loop-less Inv-loop μ-loop
 loop-less c = omega arith
 
 loop-again : tie.Need-loop-again Inv-loop μ-loop
-loop-again c = (omega arith, rw (c .before .before .store .ensures) (made-next _ (c .before .before .before .before .before .before .before .before .before .before .args .x) (c .before .before .before .before .before .before .before .before .before .before .args .q) (c .before .before .before .before .before .before .before .loop .p) _ _ _ _ (omega arith) (omega (arith, c .before .before .before .before .before .before .before .loop .inv .1 .long)) (pair1 neg3 (c .before .before .before .before .before .before .before .before .before .before .args .q) (c .before .before .before .before .before .before .before .before .before .before .args .a .now) (c .before .before .before .before .before .before .before .before .before .before .args .y) (c .before .before .before .before .before .before .before .loop .p) _ _ _ _ _ refl (c .before .before .before .before .before .load .ensures .0) (c .before .before .before .before .before .load .ensures .1) (c .before .before .before .negation .ensures) (omega (arith, c .before .before .before .negation .ok)) (omega (arith, c .before .before .before .negation .ok))) (c .before .before .before .before .before .before .before .loop .inv .1)))
+loop-again c = (omega arith, more1 neg3 (c .before .before .before .before .before .before .before .before .before .before .before .before .args .q) (c .before .before .before .before .before .before .before .before .before .before .before .before .args .a .now) (c .before .before .before .before .before .before .before .before .before .before .before .before .args .x) (c .before .before .before .before .before .before .before .before .before .before .before .before .args .y) (c .before .before .before .before .before .before .before .before .before .loop .j + 2) 2 (c .before .before .before .before .before .before .before .before .before .loop .j + 4) _ _ _ (omega arith) (omega arith) (more1 neg3 (c .before .before .before .before .before .before .before .before .before .before .before .before .args .q) (c .before .before .before .before .before .before .before .before .before .before .before .before .args .a .now) (c .before .before .before .before .before .before .before .before .before .before .before .before .args .x) (c .before .before .before .before .before .before .before .before .before .before .before .before .args .y) (c .before .before .before .before .before .before .before .before .before .loop .j) 2 (c .before .before .before .before .before .before .before .before .before .loop .j + 2) _ _ _ (omega arith) (omega arith) (c .before .before .before .before .before .before .before .before .before .loop .inv .1) (c .before .before .before .before .before .before .negation-two .ensures)) (c .before .before .negation-two2 .ensures))
+
+sub-negation-rest : tie.Need-sub-negation-rest Inv-loop μ-loop
+sub-negation-rest c = omega arith
+
+add-negation-rest : tie.Need-add-negation-rest Inv-loop μ-loop
+add-negation-rest c = omega arith
+
+add-negation-rest-2 : tie.Need-add-negation-rest-2 Inv-loop μ-loop
+add-negation-rest-2 c = omega (arith, c .before .before .before .before .before .pre .1 .room)
+
+negation-rest-requires : tie.Need-negation-rest-requires Inv-loop μ-loop
+negation-rest-requires c κs = (omega arith, record { fits = omega arith; room = omega (arith, c .before .before .loop .inv .1 .long) }, readable-part (c .before .before .before .before .before .args .q) (c .before .before .before .before .before .args .q) (c .before .before .loop .j) (c .before .before .before .before .before .args .q - c .before .before .loop .j) (c .before .before .before .before .before .args .y) _ _ refl (omega arith) (c .before .before .before .before .before .pre .1))
 
 same-length : tie.Need-same-length Inv-loop μ-loop
-same-length c = c .before .loop .inv .1 .long
+same-length c = c .before .before .negation-rest .ensures .long ∙ c .before .before .before .before .before .loop .inv .1 .long
 
 returns : tie.Need-returns Inv-loop μ-loop
-returns c =
-    let e : c .before .loop .p ≡ c .before .before .before .before .args .q = omega arith in
-    subst (λ (n : ℕ). Made (of1 neg3 (c .before .before .before .before .args .q) (c .before .before .before .before .args .a .now) (c .before .before .before .before .args .y)) (c .before .before .before .before .args .x) (c .before .before .before .before .args .q) n (c .before .before .before .before .args .out .now) (c .before .loop .out)) e (c .before .loop .inv .1)
+returns c = more1 neg3 (c .before .before .before .before .before .before .before .before .args .q) (c .before .before .before .before .before .before .before .before .args .a .now) (c .before .before .before .before .before .before .before .before .args .x) (c .before .before .before .before .before .before .before .before .args .y) (c .before .before .before .before .before .loop .j) (c .before .before .before .before .before .before .before .before .args .q - c .before .before .before .before .before .loop .j) (c .before .before .before .before .before .before .before .before .args .q) _ _ _ (omega arith) (omega arith) (c .before .before .before .before .before .loop .inv .1) (c .before .before .negation-rest .ensures)
 
 pub negation-spec : {M : Type 1} → statement M
 negation-spec =
@@ -55,13 +74,20 @@ negation-spec =
     Inv-loop
     μ-loop
     loop-holds
-    add-load
-    load-requires
-    add-store
-    negation-requires
-    store-requires
-    add-p
+    add-loop
+    add-negation-two
+    add-negation-two-2
+    negation-two-requires
+    add-i
+    add-negation-two-3
+    add-negation-two-4
+    negation-two-requires-2
+    add-j
     loop-less
     loop-again
+    sub-negation-rest
+    add-negation-rest
+    add-negation-rest-2
+    negation-rest-requires
     same-length
     returns)

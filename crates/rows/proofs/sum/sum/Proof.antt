@@ -1,58 +1,89 @@
-use mathlib.Core.Path.{_≡_, refl, subst}
-use Prim.Native.Nat.{ℕ, _+_, _-_, _≤_}
+use mathlib.Core.Path.{refl, sym, _∙_}
+use Prim.Native.Nat.{_+_, _-_, _≤_}
 use Rattle.cells.specs.Digit.{add3}
 use Rattle.rows.specs.Row.{of2, Made}
-use Rattle.rows.proofs.RowLaws.{made-none, made-next, load-legal, pair2}
+use Rattle.rows.proofs.RowLaws.{made-none, made-count, readable-part, more2}
 use native.Mathlib.Omega.{arith}
 use Rattle.rows.proofs.sum.sum.Statement.{statement}
 use Rattle.rows.proofs.sum.sum.Tie as tie
 
 abbrev Inv-loop : tie.InvT-loop
-Inv-loop out₀ a b q x y z p₀ out p = (p ≤ q) × Made (of2 add3 q a y b z) x q p out₀ out
+Inv-loop out₀ a b q x y z j₀ out j = (j ≤ q) × Made (of2 add3 q a y b z) x q j out₀ out
 
 abbrev μ-loop : tie.MeasureT-loop
-μ-loop out₀ a b q x y z p₀ out p = q - p
+μ-loop out₀ a b q x y z j₀ out j = q - j
+
+sum-one-requires : tie.Need-sum-one-requires Inv-loop μ-loop
+sum-one-requires c κs = (record { fits = omega arith; room = omega arith }, readable-part (c .before .before .before .before .before .args .q) (c .before .before .before .before .before .args .q) 0 1 (c .before .before .before .before .before .args .y) _ _ (omega arith) (omega arith) (c .before .before .before .before .before .pre .1), readable-part (c .before .before .before .before .before .args .q) (c .before .before .before .before .before .args .q) 0 1 (c .before .before .before .before .before .args .z) _ _ (omega arith) (omega arith) (c .before .before .before .before .before .pre .2))
+
+same-length : tie.Need-same-length Inv-loop μ-loop
+same-length c = c .before .before .sum-one .ensures .long
+
+returns : tie.Need-returns Inv-loop μ-loop
+returns c = made-count _ (c .before .before .before .before .before .before .before .before .args .x) (c .before .before .before .before .before .before .before .before .args .q) 1 (c .before .before .before .before .before .before .before .before .args .q) _ _ (sym (c .before .before .before .before .if1 .taken)) (c .before .before .sum-one .ensures)
 
 loop-holds : tie.Need-loop-holds Inv-loop μ-loop
 loop-holds c = (omega arith, made-none _ _ _ _)
 
-add-load : tie.Need-add-load Inv-loop μ-loop
-add-load c = omega (arith, c .before .before .before .before .before .pre .1 .room, c .before .before .before .before .before .pre .2 .room)
+add-loop : tie.Need-add-loop Inv-loop μ-loop
+add-loop c = omega arith
 
-load-requires : tie.Need-load-requires Inv-loop μ-loop
-load-requires c κs = omega (arith, c .before .before .before .before .before .pre .1 .room, c .before .before .before .before .before .pre .2 .room)
+add-sum-two : tie.Need-add-sum-two Inv-loop μ-loop
+add-sum-two c = omega arith
 
-add-load-2 : tie.Need-add-load-2 Inv-loop μ-loop
-add-load-2 c = omega (arith, c .before .before .before .before .before .before .pre .1 .room, c .before .before .before .before .before .before .pre .2 .room)
+add-sum-two-2 : tie.Need-add-sum-two-2 Inv-loop μ-loop
+add-sum-two-2 c = omega (arith, c .before .before .before .before .before .before .before .pre .1 .room)
 
-load-requires-2 : tie.Need-load-requires-2 Inv-loop μ-loop
-load-requires-2 c κs = omega (arith, c .before .before .before .before .before .before .pre .1 .room, c .before .before .before .before .before .before .pre .2 .room)
+add-sum-two-3 : tie.Need-add-sum-two-3 Inv-loop μ-loop
+add-sum-two-3 c = omega (arith, c .before .before .before .before .before .before .before .pre .2 .room)
 
-add-store : tie.Need-add-store Inv-loop μ-loop
-add-store c = omega arith
+sum-two-requires : tie.Need-sum-two-requires Inv-loop μ-loop
+sum-two-requires c κs = (record { fits = omega arith; room = omega (arith, c .before .before .loop .inv .1 .long) }, readable-part (c .before .before .before .before .before .before .before .args .q) (c .before .before .before .before .before .before .before .args .q) (c .before .before .loop .j) 2 (c .before .before .before .before .before .before .before .args .y) _ _ refl (omega arith) (c .before .before .before .before .before .before .before .pre .1), readable-part (c .before .before .before .before .before .before .before .args .q) (c .before .before .before .before .before .before .before .args .q) (c .before .before .loop .j) 2 (c .before .before .before .before .before .before .before .args .z) _ _ refl (omega arith) (c .before .before .before .before .before .before .before .pre .2))
 
-sum-requires : tie.Need-sum-requires Inv-loop μ-loop
-sum-requires c κs = (load-legal (c .before .before .before .before .before .before .before .before .args .a .now) (c .before .before .before .before .before .before .before .before .args .y) (c .before .before .before .before .before .before .before .before .args .q) (c .before .before .before .before .before .before .before .before .args .q) (c .before .before .before .before .loop .p) _ _ _ (c .before .before .before .before .before .before .before .before .pre .1 .legal) (omega arith) refl (c .before .before .load .ensures .0) (c .before .before .load .ensures .1), load-legal (c .before .before .before .before .before .before .before .before .args .b .now) (c .before .before .before .before .before .before .before .before .args .z) (c .before .before .before .before .before .before .before .before .args .q) (c .before .before .before .before .before .before .before .before .args .q) (c .before .before .before .before .loop .p) _ _ _ (c .before .before .before .before .before .before .before .before .pre .2 .legal) (omega arith) refl (c .before .load2 .ensures .0) (c .before .load2 .ensures .1))
+add-i : tie.Need-add-i Inv-loop μ-loop
+add-i c = omega arith
 
-store-requires : tie.Need-store-requires Inv-loop μ-loop
-store-requires c κs = omega (arith, c .before .before .before .before .before .loop .inv .1 .long)
+add-sum-two-4 : tie.Need-add-sum-two-4 Inv-loop μ-loop
+add-sum-two-4 c = omega arith
 
-add-p : tie.Need-add-p Inv-loop μ-loop
-add-p c = omega arith
+add-sum-two-5 : tie.Need-add-sum-two-5 Inv-loop μ-loop
+add-sum-two-5 c = omega (arith, c .before .before .before .before .before .before .before .before .before .before .before .pre .1 .room)
+
+add-sum-two-6 : tie.Need-add-sum-two-6 Inv-loop μ-loop
+add-sum-two-6 c = omega (arith, c .before .before .before .before .before .before .before .before .before .before .before .pre .2 .room)
+
+sum-two-requires-2 : tie.Need-sum-two-requires-2 Inv-loop μ-loop
+sum-two-requires-2 c κs = (record { fits = omega arith; room = omega (arith, c .before .before .before .before .before .before .loop .inv .1 .long, c .before .before .before .sum-two .ensures .long) }, readable-part (c .before .before .before .before .before .before .before .before .before .before .before .args .q) (c .before .before .before .before .before .before .before .before .before .before .before .args .q) (c .before .before .before .before .before .before .loop .j + 2) 2 (c .before .before .before .before .before .before .before .before .before .before .before .args .y) _ _ refl (omega arith) (c .before .before .before .before .before .before .before .before .before .before .before .pre .1), readable-part (c .before .before .before .before .before .before .before .before .before .before .before .args .q) (c .before .before .before .before .before .before .before .before .before .before .before .args .q) (c .before .before .before .before .before .before .loop .j + 2) 2 (c .before .before .before .before .before .before .before .before .before .before .before .args .z) _ _ refl (omega arith) (c .before .before .before .before .before .before .before .before .before .before .before .pre .2))
+
+add-j : tie.Need-add-j Inv-loop μ-loop
+add-j c = omega arith
 
 loop-less : tie.Need-loop-less Inv-loop μ-loop
 loop-less c = omega arith
 
 loop-again : tie.Need-loop-again Inv-loop μ-loop
-loop-again c = (omega arith, rw (c .before .before .store .ensures) (made-next _ (c .before .before .before .before .before .before .before .before .before .before .before .before .args .x) (c .before .before .before .before .before .before .before .before .before .before .before .before .args .q) (c .before .before .before .before .before .before .before .before .loop .p) _ _ _ _ (omega arith) (omega (arith, c .before .before .before .before .before .before .before .before .loop .inv .1 .long)) (pair2 add3 (c .before .before .before .before .before .before .before .before .before .before .before .before .args .q) (c .before .before .before .before .before .before .before .before .before .before .before .before .args .a .now) (c .before .before .before .before .before .before .before .before .before .before .before .before .args .y) _ _ _ (c .before .before .before .before .before .before .before .before .before .before .before .before .args .b .now) (c .before .before .before .before .before .before .before .before .before .before .before .before .args .z) _ _ _ (c .before .before .before .before .before .before .before .before .loop .p) _ _ refl (c .before .before .before .before .before .before .load .ensures .0) (c .before .before .before .before .before .before .load .ensures .1) refl (c .before .before .before .before .before .load2 .ensures .0) (c .before .before .before .before .before .load2 .ensures .1) (c .before .before .before .sum .ensures) (omega (arith, c .before .before .before .sum .ok)) (omega (arith, c .before .before .before .sum .ok))) (c .before .before .before .before .before .before .before .before .loop .inv .1)))
+loop-again c = (omega arith, more2 add3 (c .before .before .before .before .before .before .before .before .before .before .before .before .before .before .args .q) (c .before .before .before .before .before .before .before .before .before .before .before .before .before .before .args .a .now) (c .before .before .before .before .before .before .before .before .before .before .before .before .before .before .args .b .now) (c .before .before .before .before .before .before .before .before .before .before .before .before .before .before .args .x) (c .before .before .before .before .before .before .before .before .before .before .before .before .before .before .args .y) (c .before .before .before .before .before .before .before .before .before .before .before .before .before .before .args .z) (c .before .before .before .before .before .before .before .before .before .loop .j + 2) 2 (c .before .before .before .before .before .before .before .before .before .loop .j + 4) _ _ _ (omega arith) (omega arith) (more2 add3 (c .before .before .before .before .before .before .before .before .before .before .before .before .before .before .args .q) (c .before .before .before .before .before .before .before .before .before .before .before .before .before .before .args .a .now) (c .before .before .before .before .before .before .before .before .before .before .before .before .before .before .args .b .now) (c .before .before .before .before .before .before .before .before .before .before .before .before .before .before .args .x) (c .before .before .before .before .before .before .before .before .before .before .before .before .before .before .args .y) (c .before .before .before .before .before .before .before .before .before .before .before .before .before .before .args .z) (c .before .before .before .before .before .before .before .before .before .loop .j) 2 (c .before .before .before .before .before .before .before .before .before .loop .j + 2) _ _ _ (omega arith) (omega arith) (c .before .before .before .before .before .before .before .before .before .loop .inv .1) (c .before .before .before .before .before .before .sum-two .ensures)) (c .before .before .sum-two2 .ensures))
 
-same-length : tie.Need-same-length Inv-loop μ-loop
-same-length c = c .before .loop .inv .1 .long
+sub-sum-rest : tie.Need-sub-sum-rest Inv-loop μ-loop
+sub-sum-rest c = omega arith
 
-returns : tie.Need-returns Inv-loop μ-loop
-returns c =
-    let e : c .before .loop .p ≡ c .before .before .before .before .before .args .q = omega arith in
-    subst (λ (n : ℕ). Made (of2 add3 (c .before .before .before .before .before .args .q) (c .before .before .before .before .before .args .a .now) (c .before .before .before .before .before .args .y) (c .before .before .before .before .before .args .b .now) (c .before .before .before .before .before .args .z)) (c .before .before .before .before .before .args .x) (c .before .before .before .before .before .args .q) n (c .before .before .before .before .before .args .out .now) (c .before .loop .out)) e (c .before .loop .inv .1)
+add-sum-rest : tie.Need-add-sum-rest Inv-loop μ-loop
+add-sum-rest c = omega arith
+
+add-sum-rest-2 : tie.Need-add-sum-rest-2 Inv-loop μ-loop
+add-sum-rest-2 c = omega (arith, c .before .before .before .before .before .before .before .pre .1 .room)
+
+add-sum-rest-3 : tie.Need-add-sum-rest-3 Inv-loop μ-loop
+add-sum-rest-3 c = omega (arith, c .before .before .before .before .before .before .before .pre .2 .room)
+
+sum-rest-requires : tie.Need-sum-rest-requires Inv-loop μ-loop
+sum-rest-requires c κs = (omega arith, record { fits = omega arith; room = omega (arith, c .before .before .loop .inv .1 .long) }, readable-part (c .before .before .before .before .before .before .before .args .q) (c .before .before .before .before .before .before .before .args .q) (c .before .before .loop .j) (c .before .before .before .before .before .before .before .args .q - c .before .before .loop .j) (c .before .before .before .before .before .before .before .args .y) _ _ refl (omega arith) (c .before .before .before .before .before .before .before .pre .1), readable-part (c .before .before .before .before .before .before .before .args .q) (c .before .before .before .before .before .before .before .args .q) (c .before .before .loop .j) (c .before .before .before .before .before .before .before .args .q - c .before .before .loop .j) (c .before .before .before .before .before .before .before .args .z) _ _ refl (omega arith) (c .before .before .before .before .before .before .before .pre .2))
+
+same-length-2 : tie.Need-same-length-2 Inv-loop μ-loop
+same-length-2 c = c .before .before .sum-rest .ensures .long ∙ c .before .before .before .before .before .loop .inv .1 .long
+
+returns-2 : tie.Need-returns-2 Inv-loop μ-loop
+returns-2 c = more2 add3 (c .before .before .before .before .before .before .before .before .before .before .args .q) (c .before .before .before .before .before .before .before .before .before .before .args .a .now) (c .before .before .before .before .before .before .before .before .before .before .args .b .now) (c .before .before .before .before .before .before .before .before .before .before .args .x) (c .before .before .before .before .before .before .before .before .before .before .args .y) (c .before .before .before .before .before .before .before .before .before .before .args .z) (c .before .before .before .before .before .loop .j) (c .before .before .before .before .before .before .before .before .before .before .args .q - c .before .before .before .before .before .loop .j) (c .before .before .before .before .before .before .before .before .before .before .args .q) _ _ _ (omega arith) (omega arith) (c .before .before .before .before .before .loop .inv .1) (c .before .before .sum-rest .ensures)
 
 pub sum-spec : {M : Type 1} → statement M
 sum-spec =
@@ -60,16 +91,27 @@ sum-spec =
     (tie.spec
     Inv-loop
     μ-loop
+    sum-one-requires
+    same-length
+    returns
     loop-holds
-    add-load
-    load-requires
-    add-load-2
-    load-requires-2
-    add-store
-    sum-requires
-    store-requires
-    add-p
+    add-loop
+    add-sum-two
+    add-sum-two-2
+    add-sum-two-3
+    sum-two-requires
+    add-i
+    add-sum-two-4
+    add-sum-two-5
+    add-sum-two-6
+    sum-two-requires-2
+    add-j
     loop-less
     loop-again
-    same-length
-    returns)
+    sub-sum-rest
+    add-sum-rest
+    add-sum-rest-2
+    add-sum-rest-3
+    sum-rest-requires
+    same-length-2
+    returns-2)
