@@ -13,9 +13,10 @@
 #include <string.h>
 
 #include "c/kernels.h"
+#include "c/product.h"
 #include "c/requests.h"
 
-// Ours: a slice is its start and its number of elements. 0 is done, anything else a refusal.
+// Ours: a slice is its start and its number of elements. 0 is done, anything else a refusal; a turn gives back the steps done, or REFUSED.
 uint64_t bench_add(uint64_t *d, size_t d_len, const uint64_t *s, size_t s_len, size_t q, size_t times);
 uint64_t bench_subtract(uint64_t *d, size_t d_len, const uint64_t *s, size_t s_len, size_t q, size_t times);
 uint64_t bench_table_step(uint64_t *d, size_t d_len, const uint64_t *s, size_t s_len, size_t q, size_t times);
@@ -31,11 +32,18 @@ uint64_t bench_transpose(uint64_t rows, uint64_t columns, const uint64_t *a, siz
 uint64_t bench_pack(uint64_t rows, uint64_t columns, const uint8_t *cells, size_t cells_len, uint64_t *out, size_t out_len);
 uint64_t bench_unpack(uint64_t rows, uint64_t columns, const uint64_t *a, size_t a_len, uint8_t *out, size_t out_len);
 
+uint64_t bench_product(uint64_t m, uint64_t l, uint64_t n, uint64_t width, const uint64_t *a, size_t a_len, const uint64_t *b, size_t b_len,
+                       uint64_t *table, size_t table_len, uint64_t *product, size_t product_len);
+uint64_t bench_opening(uint64_t m, uint64_t l, uint64_t n, uint64_t width, const uint64_t *a, size_t a_len, const uint64_t *b, size_t b_len,
+                       uint64_t *table, size_t table_len, uint64_t *product, size_t product_len);
+uint64_t bench_turn(uint64_t m, uint64_t l, uint64_t n, uint64_t width, uint64_t done, const uint64_t *a, size_t a_len, const uint64_t *b,
+                    size_t b_len, uint64_t *table, size_t table_len, uint64_t *product, size_t product_len, uint32_t budget);
+
 enum { BUFFERS = 4, SIZES = 4 };
 
 // What a case works on; a buffer of bytes is one of words, cast.
 struct work {
-    size_t size;
+    size_t size, width; // a job's width, else 0
     uint64_t *at[BUFFERS];
     size_t words[BUFFERS];
 };
@@ -229,6 +237,61 @@ SIDE(c_transpose_blocks, matrix_transpose_blocks, WORDS(0), WORDS(1))
 REQUEST(pack, CELLS(0), WORDS(1))
 REQUEST(unpack, WORDS(0), CELLS(1))
 
+// Products: A, B, table and product. A turn reads all four, so for a lone one table and product are legal.
+static void whole(struct work *w, size_t width)
+{
+    w->width = width;
+    matrix(w, 0, w->size, w->size);
+    matrix(w, 1, w->size, w->size);
+    anything(w, 2, 2 * planes(w->size) << width);
+    anything(w, 3, matrix_words(w->size));
+}
+
+static void whole_4(struct work *w)
+{
+    whole(w, 4);
+}
+
+static void whole_8(struct work *w)
+{
+    whole(w, 8);
+}
+
+static void turn_8(struct work *w)
+{
+    w->width = 8;
+    matrix(w, 0, w->size, w->size);
+    matrix(w, 1, w->size, w->size);
+    matrix(w, 2, 1 << w->width, w->size);
+    matrix(w, 3, w->size, w->size);
+}
+
+#define JOB WORDS(0), WORDS(1), WORDS(2), WORDS(3)
+
+REQUEST(product, w->size, w->width, JOB)
+REQUEST(turn, w->size, w->width, 0, JOB, 0)
+
+// A whole job: its opening, and turns of 1,000 steps to the end. The C's turn finds its place by counting too, having no more than the record.
+#define TURNS(side, opening, turn)                                        \
+    static uint64_t side(struct work *w, size_t times)                    \
+    {                                                                     \
+        uint64_t n = w->size, answer = 0;                                 \
+        for (size_t i = 0; i < times && answer == 0; i++) {               \
+            uint64_t done = 0, made = 1000;                               \
+            answer = opening(n, n, n, w->width, JOB);                     \
+            while (answer == 0 && made == 1000) {                         \
+                uint64_t next = turn(n, n, n, w->width, done, JOB, 1000); \
+                answer = next == REFUSED ? REFUSED : 0;                   \
+                made = next - done;                                       \
+                done = next;                                              \
+            }                                                             \
+        }                                                                 \
+        return answer;                                                    \
+    }
+
+TURNS(ours_turns, bench_opening, bench_turn)
+TURNS(c_turns, matrix_opening, matrix_turn)
+
 // Spoils a buffer that is read; false is that there is no further way to. The faults stand at the buffer's end, where a side that leaves a test
 // out, or ends it early, does not see them.
 typedef bool spoil(struct work *w, int buffer, int way);
@@ -281,6 +344,17 @@ static size_t matrix_cells(size_t n)
     return n * n;
 }
 
+// The size quotes: as many steps as if no P and no N were 0.
+static size_t steps_4(size_t n)
+{
+    return n / 4 * (15 + 2 * n);
+}
+
+static size_t steps_8(size_t n)
+{
+    return n / 8 * (255 + 2 * n);
+}
+
 struct bench_case {
     const char *name;
     size_t sizes[SIZES]; // up to the first 0
@@ -307,6 +381,10 @@ static const struct bench_case cases[] = {
     {"transpose-blocks", {64, 256, 1024}, 2, one_to_one, ours_transpose, c_transpose_blocks, "cell", matrix_cells, 1, spoil_matrix},
     {"pack", {64, 256, 1000, 1024}, 2, cells_to_one, ours_pack, c_pack, "cell", matrix_cells, 1, spoil_cells},
     {"unpack", {64, 256, 1000, 1024}, 2, one_to_cells, ours_unpack, c_unpack, "cell", matrix_cells, 1, spoil_matrix},
+    {"product-4", {64, 1024}, 2, whole_4, ours_product, c_product, "step", steps_4, 2, spoil_matrix},
+    {"product-8", {256, 1024}, 2, whole_8, ours_product, c_product, "step", steps_8, 2, spoil_matrix},
+    {"turn-of-0", {1024}, 2, turn_8, ours_turn, c_turn, "step", steps_8, 4, spoil_matrix},
+    {"turns-of-1000", {1024}, 1, whole_8, ours_turns, c_turns, "step", steps_8, 2, spoil_matrix},
 };
 
 enum { CASES = sizeof cases / sizeof *cases };

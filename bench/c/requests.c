@@ -2,51 +2,13 @@
 // gcc makes the fewest instructions of. Compiled apart from the loop that repeats them, so that every call pays for its own tests.
 //
 // `restrict`: the callers see to it that a buffer to be written shares no byte with another, as callers of ours must.
-#include <stdbool.h>
-
 #include "requests.h"
-
-enum { DONE = 0, TOO_LARGE = 1, LENGTH_WRONG = 4, STRAY_SIGN = 5, PADDING_SET = 6, DIGIT_WRONG = 8 };
-
-// Words a plane of a row.
-static size_t planes(size_t c)
-{
-    return (c + 63) / 64;
-}
-
-static bool over(uint64_t rows, uint64_t columns)
-{
-    return rows > 1024 || columns > 1024;
-}
-
-static bool unfit(size_t r, size_t c, size_t len)
-{
-    return len != r * 2 * planes(c);
-}
+#include "tests.h"
 
 // How many of the 64 cells from cell `from` on a row of n has.
 static size_t real(size_t n, size_t from)
 {
     return n - from < 64 ? n - from : 64;
-}
-
-// One pass for both faults. Nothing is decided in it, so that it becomes vector code: a legal matrix, the usual one, is read to its end anyway.
-static uint64_t fault(size_t r, size_t c, const uint64_t *a)
-{
-    size_t q = planes(c);
-    if (q == 0)
-        return DONE;
-    size_t last = q - 1;
-    uint64_t columns = ~(uint64_t)0 >> (64 * q - c);
-    uint64_t stray = 0, padding = 0;
-    for (size_t i = 0; i < r; i++) {
-        const uint64_t *unit = a + 2 * q * i, *sign = unit + q;
-        for (size_t j = 0; j < last; j++)
-            stray |= sign[j] & ~unit[j];
-        stray |= sign[last] & ~unit[last] & columns;
-        padding |= (unit[last] | sign[last]) & ~columns;
-    }
-    return stray != 0 ? STRAY_SIGN : padding != 0 ? PADDING_SET : DONE;
 }
 
 static uint64_t judge_one(uint64_t rows, uint64_t columns, const uint64_t *a, size_t a_len, size_t out_len)

@@ -1,4 +1,5 @@
-// Requests, one call each: their answer's number comes back.
+// Requests, one call each: their answer's number comes back, and of a turn the record's steps done.
+use matrix::job::Job;
 use requests::Size;
 use requests::number;
 
@@ -78,4 +79,80 @@ pub extern "C" fn bench_unpack(rows: u64, columns: u64, a: &[u64], out: &mut [u8
         columns: columns,
     };
     number(matrix::unpack::unpack(s, a, out))
+}
+
+#[no_mangle]
+pub extern "C" fn bench_product(
+    m: u64,
+    l: u64,
+    n: u64,
+    width: u64,
+    a: &[u64],
+    b: &[u64],
+    table: &mut [u64],
+    product: &mut [u64],
+) -> u64 {
+    let x = Size {
+        rows: m,
+        columns: l,
+    };
+    let y = Size {
+        rows: l,
+        columns: n,
+    };
+    number(matrix::product::product(x, y, width, a, b, table, product))
+}
+
+#[no_mangle]
+pub extern "C" fn bench_opening(
+    m: u64,
+    l: u64,
+    n: u64,
+    width: u64,
+    a: &[u64],
+    b: &[u64],
+    table: &mut [u64],
+    product: &mut [u64],
+) -> u64 {
+    let x = Size {
+        rows: m,
+        columns: l,
+    };
+    let y = Size {
+        rows: l,
+        columns: n,
+    };
+    let opened = matrix::opening::opening(x, y, width, a, b, table, product);
+    let answer = opened.answer;
+    number(answer)
+}
+
+// A refusal gives a number that no list has.
+#[no_mangle]
+pub extern "C" fn bench_turn(
+    m: u64,
+    l: u64,
+    n: u64,
+    width: u64,
+    done: u64,
+    a: &[u64],
+    b: &[u64],
+    table: &mut [u64],
+    product: &mut [u64],
+    budget: u32,
+) -> u64 {
+    let job = Job {
+        m: m,
+        l: l,
+        n: n,
+        width: width,
+        done: done,
+    };
+    let turned = matrix::turn::turn(job, a, b, table, product, budget);
+    let answer = turned.answer;
+    if number(answer) != 0 {
+        return 18446744073709551615;
+    }
+    let next = turned.job;
+    next.done
 }

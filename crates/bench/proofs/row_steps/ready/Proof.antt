@@ -4,8 +4,8 @@ use Rattle.buffers.specs.Buffer.{planes}
 use Rattle.rows.proofs.FaultLaws.{clean-legal}
 use borrow.Author.Needs.{needs}
 use native.Mathlib.Omega.{arith}
-use Rattle.bench.proofs.steps.ready.Statement.{statement}
-use Rattle.bench.proofs.steps.ready.Tie as tie
+use Rattle.bench.proofs.row_steps.ready.Statement.{statement}
+use Rattle.bench.proofs.row_steps.ready.Tie as tie
 
 returns : tie.Need-returns
 returns c = λ e. absurd (let z : _≡_ {A = ℕ} 0 1 = cc in omega arith)

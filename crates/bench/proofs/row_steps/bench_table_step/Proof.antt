@@ -1,8 +1,8 @@
 use borrow.Author.Tests.{not-false}
 use borrow.Author.Needs.{needs}
 use native.Mathlib.Omega.{arith}
-use Rattle.bench.proofs.steps.bench_table_step.Statement.{statement}
-use Rattle.bench.proofs.steps.bench_table_step.Tie as tie
+use Rattle.bench.proofs.row_steps.bench_table_step.Statement.{statement}
+use Rattle.bench.proofs.row_steps.bench_table_step.Tie as tie
 
 ready-requires : tie.Need-ready-requires
 ready-requires c κs = search needs

@@ -4,8 +4,8 @@ use lib.ListN.{length}
 use Rattle.rows.specs.Row.{Readable}
 use Rattle.rows.proofs.RowLaws.{still-readable}
 use native.Mathlib.Omega.{arith}
-use Rattle.bench.proofs.steps.repeat_table_step.Statement.{statement}
-use Rattle.bench.proofs.steps.repeat_table_step.Tie as tie
+use Rattle.bench.proofs.row_steps.repeat_table_step.Statement.{statement}
+use Rattle.bench.proofs.row_steps.repeat_table_step.Tie as tie
 
 abbrev Inv-loop : tie.InvT-loop
 Inv-loop d₀ s q times x i₀ d i = (i ≤ times) × (length d ≡ length d₀) × Readable q q 0 d

@@ -1,7 +1,7 @@
 use borrow.Author.Tests.{not-false}
 use borrow.Author.Needs.{needs}
-use Rattle.bench.proofs.steps.bench_subtract.Statement.{statement}
-use Rattle.bench.proofs.steps.bench_subtract.Tie as tie
+use Rattle.bench.proofs.row_steps.bench_subtract.Statement.{statement}
+use Rattle.bench.proofs.row_steps.bench_subtract.Tie as tie
 
 ready-requires : tie.Need-ready-requires
 ready-requires c κs = search needs
