@@ -19,7 +19,7 @@ use Rattle.requests.specs.declared.Size.{Size}
 use Rattle.requests.specs.Answers.{first}
 use Rattle.requests.specs.Sizes.{over, unfit, faults}
 use Rattle.requests.proofs.SizeLaws.{over-rows, over-columns, unfit-long}
-use Rattle.requests.proofs.AnswerLaws.{positive, None, first-none}
+use Rattle.requests.proofs.AnswerLaws.{positive, None, first-none, append-given, append-none, later}
 use Rattle.rows.specs.Row.{Written}
 use Rattle.steps.specs.Matrix.{sum}
 use Rattle.steps.specs.Step.{Step, State, run, opening}
@@ -33,9 +33,9 @@ use Rattle.walk.specs.Due.{due}
 use Rattle.walk.specs.Ran.{found, Ran}
 use Rattle.walk.proofs.CountLaws.{pow-small}
 use Rattle.matrix.specs.declared.job.Job.{Job}
-use Rattle.matrix.specs.Job.{meant, tableSize, productSize, misfit, totalOf}
+use Rattle.matrix.specs.Job.{meant, tableSize, productSize, misfit, totalOf, countless}
 use Rattle.matrix.specs.Total.{factorTests}
-use Rattle.matrix.specs.Opening.{fittingTests}
+use Rattle.matrix.specs.Opening.{fittingTests, openingTests}
 use Rattle.matrix.specs.Turn.{sizeA, sizeB, foundTests, madeOf, leftOf, onJob}
 
 pub meant-pos : (w : ℕ) → 0 < meant w
@@ -174,6 +174,19 @@ factor-positive x w a = tt
 pub fitting-positive : (x y : Size) (w : ℕ) (a b : List ℕ) (t p : ℕ) → T (positive (fittingTests x y w a b t p))
 unfolding fittingTests faults
 fitting-positive x y w a b t p = tt
+
+-- within the sizes no list is too long to count
+pub opening-first : (x y : Size) (w : ℕ) (a b : List ℕ) (t p : ℕ) → first (openingTests x y w a b t p) ≡ first (fittingTests x y w a b t p)
+unfolding openingTests first
+opening-first x y w a b t p = go (first (fittingTests x y w a b t p)) refl
+  where
+    go : (n : ℕ) → first (fittingTests x y w a b t p) ≡ n → first (fittingTests x y w a b t p ++ countless (totalOf x (meant w) a)) ≡ first (fittingTests x y w a b t p)
+    go zero e =
+        let r = fitting-ready x y w a b t p e in
+        append-none (fittingTests x y w a b t p) (countless (totalOf x (meant w) a)) (fitting-positive x y w a b t p) e
+        ∙ later (ltb 4294967295 (totalOf x (meant w) a)) 9 [] (le-ltb 4294967295 (totalOf x (meant w) a) (omega (arith, total-small (x .rows) (x .columns) (meant w) (cell (x .columns) a) (r .m) (r .l) (meant-pos w) (meant-le w (r .width)))))
+        ∙ sym e
+    go (suc n) e = append-given (fittingTests x y w a b t p) (countless (totalOf x (meant w) a)) (λ z. omega (arith, e, z))
 
 pub found-positive : (job : Job) (a b t p : List ℕ) → T (positive (foundTests job a b t p))
 unfolding foundTests faults

@@ -15,7 +15,6 @@ use requests::faults::fault;
 use requests::number;
 use requests::sizes::either_over;
 use rows::clear::clear;
-use walk::place::place;
 
 pub struct Opened {
     pub answer: Answer,
@@ -45,20 +44,11 @@ fn fitting(x: Size, y: Size, width: u64, a: &[u64], b: &[u64], t: usize, p: usiz
     fault(y, b)
 }
 
-// All tests of an opening.
+// All tests of an opening. Within the sizes no list is too long to count, so that 9 is never given and nothing is counted.
 pub fn judged(x: Size, y: Size, width: u64, a: &[u64], b: &[u64], t: usize, p: usize) -> Answer
     ensures { λ r. ⌜ number r ≡ first (openingTests x y width (now (a .entry)) (now (b .entry)) t p) ⌝ }
 {
-    let f = fitting(x, y, width, a, b, t, p);
-    if number(f) != 0 {
-        return f;
-    }
-    let k = meant(width) as usize;
-    let at = place(a, x.rows as usize, x.columns as usize, k, 0);
-    if at.total > 4294967295 {
-        return Answer::TotalExceeds;
-    }
-    Answer::Done
+    fitting(x, y, width, a, b, t, p)
 }
 
 // Zero in a whole buffer.

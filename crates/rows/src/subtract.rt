@@ -50,8 +50,9 @@ pub fn subtract_row(t: &mut [u64], b: &[u64], q: usize, x: usize, y: usize, z: u
     requires { ⌜ InPlace q q x y z (now t) (now b) ⌝ }
     ensures { λ _. ⌜ Made (of2 sub3 q (now (t .entry)) y (now (b .entry)) z) x q q (now (t .entry)) (now (t .exit)) ⌝ }
 {
-    if q < 4 {
-        subtract_rest(t, b, q, q, x, y, z);
+    // A row of one pair pays for nothing that the loop prepares.
+    if q == 1 {
+        subtract_one(t, b, q, x, y, z);
         return;
     }
     let mut j = 0;

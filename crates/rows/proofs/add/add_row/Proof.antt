@@ -1,8 +1,8 @@
-use mathlib.Core.Path.{_≡_, _∙_}
-use Prim.Native.Nat.{_+_, _-_, _≤_}
+use mathlib.Core.Path.{_≡_, sym, subst, _∙_}
+use Prim.Native.Nat.{ℕ, _+_, _-_, _≤_}
 use Rattle.cells.specs.Digit.{add3}
-use Rattle.rows.specs.Row.{of2, Made}
-use Rattle.rows.proofs.RowLaws.{made-none, later, next, last}
+use Rattle.rows.specs.Row.{of2, Made, InPlace}
+use Rattle.rows.proofs.RowLaws.{made-none, made-count, later, next, last}
 use native.Mathlib.Omega.{arith}
 use Rattle.rows.proofs.add.add_row.Statement.{statement}
 use Rattle.rows.proofs.add.add_row.Tie as tie
@@ -13,14 +13,14 @@ Inv-loop t₀ b q x y z j₀ t j = (j ≤ q) × Made (of2 add3 q t₀ y b z) x q
 abbrev μ-loop : tie.MeasureT-loop
 μ-loop t₀ b q x y z j₀ t j = q - j
 
-add-rest-requires : tie.Need-add-rest-requires Inv-loop μ-loop
-add-rest-requires c κs = (omega arith, (c .before .before .before .before .pre))
+add-one-requires : tie.Need-add-one-requires Inv-loop μ-loop
+add-one-requires c κs = subst (λ (n : ℕ). InPlace (c .before .before .before .before .args .q) n (c .before .before .before .before .args .x) (c .before .before .before .before .args .y) (c .before .before .before .before .args .z) (c .before .before .before .before .args .t .now) (c .before .before .before .before .args .b .now)) (c .before .if1 .taken) (c .before .before .before .before .pre)
 
 same-length : tie.Need-same-length Inv-loop μ-loop
-same-length c = c .before .before .add-rest .ensures .long
+same-length c = c .before .before .add-one .ensures .long
 
 returns : tie.Need-returns Inv-loop μ-loop
-returns c = c .before .before .add-rest .ensures
+returns c = made-count _ (c .before .before .before .before .before .before .before .args .x) (c .before .before .before .before .before .before .before .args .q) 1 (c .before .before .before .before .before .before .before .args .q) _ _ (sym (c .before .before .before .before .if1 .taken)) (c .before .before .add-one .ensures)
 
 loop-holds : tie.Need-loop-holds Inv-loop μ-loop
 loop-holds c = (omega arith, made-none _ _ _ _)
@@ -78,14 +78,14 @@ add-add-rest-2 c = omega (arith, c .before .before .before .before .before .befo
 add-add-rest-3 : tie.Need-add-add-rest-3 Inv-loop μ-loop
 add-add-rest-3 c = omega (arith, c .before .before .before .before .before .before .pre .first .room, c .before .before .before .before .before .before .pre .second .room)
 
-add-rest-requires-2 : tie.Need-add-rest-requires-2 Inv-loop μ-loop
-add-rest-requires-2 c κs = (omega arith, later (c .before .before .before .before .before .before .args .q) (c .before .before .before .before .before .before .args .q) (c .before .before .before .before .before .before .args .x) (c .before .before .before .before .before .before .args .y) (c .before .before .before .before .before .before .args .z) (c .before .before .before .before .before .before .args .t .now) (c .before .before .before .before .before .before .args .b .now) (c .before .before .before .before .before .before .pre) (of2 add3 (c .before .before .before .before .before .before .args .q) (c .before .before .before .before .before .before .args .t .now) (c .before .before .before .before .before .before .args .y) (c .before .before .before .before .before .before .args .b .now) (c .before .before .before .before .before .before .args .z)) (c .before .before .loop .j) _ (c .before .before .loop .inv .1) (c .before .before .before .before .before .before .args .q - c .before .before .loop .j) (omega arith))
+add-rest-requires : tie.Need-add-rest-requires Inv-loop μ-loop
+add-rest-requires c κs = (omega arith, later (c .before .before .before .before .before .before .args .q) (c .before .before .before .before .before .before .args .q) (c .before .before .before .before .before .before .args .x) (c .before .before .before .before .before .before .args .y) (c .before .before .before .before .before .before .args .z) (c .before .before .before .before .before .before .args .t .now) (c .before .before .before .before .before .before .args .b .now) (c .before .before .before .before .before .before .pre) (of2 add3 (c .before .before .before .before .before .before .args .q) (c .before .before .before .before .before .before .args .t .now) (c .before .before .before .before .before .before .args .y) (c .before .before .before .before .before .before .args .b .now) (c .before .before .before .before .before .before .args .z)) (c .before .before .loop .j) _ (c .before .before .loop .inv .1) (c .before .before .before .before .before .before .args .q - c .before .before .loop .j) (omega arith))
 
 same-length-2 : tie.Need-same-length-2 Inv-loop μ-loop
-same-length-2 c = c .before .before .add-rest2 .ensures .long ∙ c .before .before .before .before .before .loop .inv .1 .long
+same-length-2 c = c .before .before .add-rest .ensures .long ∙ c .before .before .before .before .before .loop .inv .1 .long
 
 returns-2 : tie.Need-returns-2 Inv-loop μ-loop
-returns-2 c = last add3 (c .before .before .before .before .before .before .before .before .before .args .q) (c .before .before .before .before .before .before .before .before .before .args .x) (c .before .before .before .before .before .before .before .before .before .args .y) (c .before .before .before .before .before .before .before .before .before .args .z) (c .before .before .before .before .before .before .before .before .before .args .t .now) (c .before .before .before .before .before .before .before .before .before .args .b .now) (c .before .before .before .before .before .loop .j) _ _ (c .before .before .before .before .before .before .before .before .before .pre) (omega arith) (c .before .before .before .before .before .loop .inv .1) (c .before .before .add-rest2 .ensures)
+returns-2 c = last add3 (c .before .before .before .before .before .before .before .before .before .args .q) (c .before .before .before .before .before .before .before .before .before .args .x) (c .before .before .before .before .before .before .before .before .before .args .y) (c .before .before .before .before .before .before .before .before .before .args .z) (c .before .before .before .before .before .before .before .before .before .args .t .now) (c .before .before .before .before .before .before .before .before .before .args .b .now) (c .before .before .before .before .before .loop .j) _ _ (c .before .before .before .before .before .before .before .before .before .pre) (omega arith) (c .before .before .before .before .before .loop .inv .1) (c .before .before .add-rest .ensures)
 
 pub add-row-spec : {M : Type 1} → statement M
 add-row-spec =
@@ -93,7 +93,7 @@ add-row-spec =
     (tie.spec
     Inv-loop
     μ-loop
-    add-rest-requires
+    add-one-requires
     same-length
     returns
     loop-holds
@@ -114,6 +114,6 @@ add-row-spec =
     add-add-rest
     add-add-rest-2
     add-add-rest-3
-    add-rest-requires-2
+    add-rest-requires
     same-length-2
     returns-2)

@@ -1,8 +1,8 @@
-use mathlib.Core.Path.{_≡_, _∙_}
-use Prim.Native.Nat.{_+_, _-_, _≤_}
+use mathlib.Core.Path.{_≡_, sym, subst, _∙_}
+use Prim.Native.Nat.{ℕ, _+_, _-_, _≤_}
 use Rattle.cells.specs.Digit.{sub3}
-use Rattle.rows.specs.Row.{of2, Made}
-use Rattle.rows.proofs.RowLaws.{made-none, later, next, last}
+use Rattle.rows.specs.Row.{of2, Made, InPlace}
+use Rattle.rows.proofs.RowLaws.{made-none, made-count, later, next, last}
 use native.Mathlib.Omega.{arith}
 use Rattle.rows.proofs.subtract.subtract_row.Statement.{statement}
 use Rattle.rows.proofs.subtract.subtract_row.Tie as tie
@@ -13,14 +13,14 @@ Inv-loop t₀ b q x y z j₀ t j = (j ≤ q) × Made (of2 sub3 q t₀ y b z) x q
 abbrev μ-loop : tie.MeasureT-loop
 μ-loop t₀ b q x y z j₀ t j = q - j
 
-subtract-rest-requires : tie.Need-subtract-rest-requires Inv-loop μ-loop
-subtract-rest-requires c κs = (omega arith, (c .before .before .before .before .pre))
+subtract-one-requires : tie.Need-subtract-one-requires Inv-loop μ-loop
+subtract-one-requires c κs = subst (λ (n : ℕ). InPlace (c .before .before .before .before .args .q) n (c .before .before .before .before .args .x) (c .before .before .before .before .args .y) (c .before .before .before .before .args .z) (c .before .before .before .before .args .t .now) (c .before .before .before .before .args .b .now)) (c .before .if1 .taken) (c .before .before .before .before .pre)
 
 same-length : tie.Need-same-length Inv-loop μ-loop
-same-length c = c .before .before .subtract-rest .ensures .long
+same-length c = c .before .before .subtract-one .ensures .long
 
 returns : tie.Need-returns Inv-loop μ-loop
-returns c = c .before .before .subtract-rest .ensures
+returns c = made-count _ (c .before .before .before .before .before .before .before .args .x) (c .before .before .before .before .before .before .before .args .q) 1 (c .before .before .before .before .before .before .before .args .q) _ _ (sym (c .before .before .before .before .if1 .taken)) (c .before .before .subtract-one .ensures)
 
 loop-holds : tie.Need-loop-holds Inv-loop μ-loop
 loop-holds c = (omega arith, made-none _ _ _ _)
@@ -78,14 +78,14 @@ add-subtract-rest-2 c = omega (arith, c .before .before .before .before .before 
 add-subtract-rest-3 : tie.Need-add-subtract-rest-3 Inv-loop μ-loop
 add-subtract-rest-3 c = omega (arith, c .before .before .before .before .before .before .pre .first .room, c .before .before .before .before .before .before .pre .second .room)
 
-subtract-rest-requires-2 : tie.Need-subtract-rest-requires-2 Inv-loop μ-loop
-subtract-rest-requires-2 c κs = (omega arith, later (c .before .before .before .before .before .before .args .q) (c .before .before .before .before .before .before .args .q) (c .before .before .before .before .before .before .args .x) (c .before .before .before .before .before .before .args .y) (c .before .before .before .before .before .before .args .z) (c .before .before .before .before .before .before .args .t .now) (c .before .before .before .before .before .before .args .b .now) (c .before .before .before .before .before .before .pre) (of2 sub3 (c .before .before .before .before .before .before .args .q) (c .before .before .before .before .before .before .args .t .now) (c .before .before .before .before .before .before .args .y) (c .before .before .before .before .before .before .args .b .now) (c .before .before .before .before .before .before .args .z)) (c .before .before .loop .j) _ (c .before .before .loop .inv .1) (c .before .before .before .before .before .before .args .q - c .before .before .loop .j) (omega arith))
+subtract-rest-requires : tie.Need-subtract-rest-requires Inv-loop μ-loop
+subtract-rest-requires c κs = (omega arith, later (c .before .before .before .before .before .before .args .q) (c .before .before .before .before .before .before .args .q) (c .before .before .before .before .before .before .args .x) (c .before .before .before .before .before .before .args .y) (c .before .before .before .before .before .before .args .z) (c .before .before .before .before .before .before .args .t .now) (c .before .before .before .before .before .before .args .b .now) (c .before .before .before .before .before .before .pre) (of2 sub3 (c .before .before .before .before .before .before .args .q) (c .before .before .before .before .before .before .args .t .now) (c .before .before .before .before .before .before .args .y) (c .before .before .before .before .before .before .args .b .now) (c .before .before .before .before .before .before .args .z)) (c .before .before .loop .j) _ (c .before .before .loop .inv .1) (c .before .before .before .before .before .before .args .q - c .before .before .loop .j) (omega arith))
 
 same-length-2 : tie.Need-same-length-2 Inv-loop μ-loop
-same-length-2 c = c .before .before .subtract-rest2 .ensures .long ∙ c .before .before .before .before .before .loop .inv .1 .long
+same-length-2 c = c .before .before .subtract-rest .ensures .long ∙ c .before .before .before .before .before .loop .inv .1 .long
 
 returns-2 : tie.Need-returns-2 Inv-loop μ-loop
-returns-2 c = last sub3 (c .before .before .before .before .before .before .before .before .before .args .q) (c .before .before .before .before .before .before .before .before .before .args .x) (c .before .before .before .before .before .before .before .before .before .args .y) (c .before .before .before .before .before .before .before .before .before .args .z) (c .before .before .before .before .before .before .before .before .before .args .t .now) (c .before .before .before .before .before .before .before .before .before .args .b .now) (c .before .before .before .before .before .loop .j) _ _ (c .before .before .before .before .before .before .before .before .before .pre) (omega arith) (c .before .before .before .before .before .loop .inv .1) (c .before .before .subtract-rest2 .ensures)
+returns-2 c = last sub3 (c .before .before .before .before .before .before .before .before .before .args .q) (c .before .before .before .before .before .before .before .before .before .args .x) (c .before .before .before .before .before .before .before .before .before .args .y) (c .before .before .before .before .before .before .before .before .before .args .z) (c .before .before .before .before .before .before .before .before .before .args .t .now) (c .before .before .before .before .before .before .before .before .before .args .b .now) (c .before .before .before .before .before .loop .j) _ _ (c .before .before .before .before .before .before .before .before .before .pre) (omega arith) (c .before .before .before .before .before .loop .inv .1) (c .before .before .subtract-rest .ensures)
 
 pub subtract-row-spec : {M : Type 1} → statement M
 subtract-row-spec =
@@ -93,7 +93,7 @@ subtract-row-spec =
     (tie.spec
     Inv-loop
     μ-loop
-    subtract-rest-requires
+    subtract-one-requires
     same-length
     returns
     loop-holds
@@ -114,6 +114,6 @@ subtract-row-spec =
     add-subtract-rest
     add-subtract-rest-2
     add-subtract-rest-3
-    subtract-rest-requires-2
+    subtract-rest-requires
     same-length-2
     returns-2)
