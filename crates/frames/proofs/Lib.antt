@@ -2,3 +2,4 @@
 pub mod HexLaws
 pub mod LineLaws
 pub mod HeaderLaws
+pub mod RowLaws
