@@ -1,9 +1,8 @@
 -- What a header line says. Assumes nothing.
-use mathlib.Core.Path.{_≡_, refl, sym, ap, _∙_}
+use mathlib.Core.Path.{_≡_}
 use mathlib.Core.Bool.{Bool}
 use mathlib.Core.List.{List}
 use Prim.Native.Nat.{ℕ}
-use Rattle.requests.specs.declared.Size.{Size}
 use Rattle.requests.specs.Sizes.{over}
 use Rattle.frames.specs.Hex.{valueOf}
 use Rattle.frames.specs.Header.{sizeOf}

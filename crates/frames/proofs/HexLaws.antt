@@ -1,8 +1,8 @@
 -- Digits, the numbers that they say, and lines. Assumes nothing.
 use mathlib.Core.Path.{_≡_, refl, sym, ap, _∙_}
-use mathlib.Core.Bool.{Bool, true, false, _||_, not}
+use mathlib.Core.Bool.{true, false, _||_, not}
 use mathlib.Core.List.{List}
-use Prim.Native.Nat.{ℕ, zero, suc, _+_, _-_, _*_, _/_, _%_, _^_, _≤_, _<_}
+use Prim.Native.Nat.{ℕ, zero, suc, _+_, _*_, _^_, _≤_, _<_}
 use native.Mathlib.Numerals.{add-one}
 use native.Mathlib.Omega.{arith}
 use lib.Pow.{pow-add, pow-mono}
@@ -11,7 +11,7 @@ use lib.ListN.{length, getD}
 use borrow.Author.Tests.{lt-ltb, le-ltb, ltb-false, eqb-true, not-false}
 use Rattle.cells.specs.Any.{any}
 use Rattle.cells.proofs.AnyLaws.{or-left, or-right, or-yes, any-at, any-more}
-use Rattle.frames.specs.Hex.{pick, digitOf, byteOf, nibble, hexOf, valueOf, undigit, unframed}
+use Rattle.frames.specs.Hex.{digitOf, valueOf, undigit, unframed}
 
 pub sixteen : (n : ℕ) → 2 ^ (4 * suc n) ≡ 16 * 2 ^ (4 * n)
 sixteen n =

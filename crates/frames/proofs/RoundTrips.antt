@@ -2,13 +2,13 @@
 use mathlib.Core.Path.{_≡_, refl, sym, ap, ap₂, _∙_}
 use mathlib.Core.Bool.{Bool, false, not}
 use mathlib.Core.List.{List, [], _∷_, _++_, append-assoc}
-use Prim.Native.Nat.{ℕ, zero, suc, _+_, _-_, _*_, _/_, _%_, _^_, _≤_, _<_}
+use Prim.Native.Nat.{ℕ, suc, _+_, _-_, _*_, _/_, _%_, _≤_, _<_}
 use native.Mathlib.Decide.{decLt}
 use native.Mathlib.Omega.{arith}
-use lib.Dec.{ltb, eqb}
+use lib.Dec.{eqb}
 use lib.ListN.{length, getD, length-append, List·getD-append}
 use lib.Seq.{getD-append-add, getD-at, ext-getD}
-use borrow.Author.Tests.{lt-ltb, le-ltb, eq-eqb}
+use borrow.Author.Tests.{le-ltb, eq-eqb}
 use Rattle.buffers.specs.Buffer.{wide, Words, tab, joined}
 use Rattle.buffers.proofs.BufferLaws.{length-tab, getD-tab, length-joined}
 use Rattle.requests.specs.declared.Size.{Size}
@@ -16,10 +16,10 @@ use Rattle.requests.specs.Answers.{first}
 use Rattle.requests.specs.Sizes.{over}
 use Rattle.requests.proofs.AnswerLaws.{finished, first-none, later, none-first}
 use Rattle.requests.proofs.SizeLaws.{over-rows, over-columns}
-use Rattle.frames.specs.Hex.{digitOf, byteOf, nibble, hexOf, valueOf, unframed}
+use Rattle.frames.specs.Hex.{byteOf, nibble, hexOf, valueOf, unframed}
 use Rattle.frames.specs.Header.{headerOf, sizeOf, readHeaderTests, readHeaderMeans, writeHeaderTests, writeHeaderMeans}
 use Rattle.frames.specs.RowLine.{lineOf, wordsOf, readRowTests, readRowMeans, writeRowTests, writeRowMeans}
-use Rattle.frames.proofs.HexLaws.{Digits, Framed, framed}
+use Rattle.frames.proofs.HexLaws.{Framed, framed}
 use Rattle.frames.proofs.DigitLaws.{Says, value-said, byte-value, nibble-lt, framed-line}
 use Rattle.frames.proofs.LineLaws.{Filled, hex-length, hex-filled, header-eight}
 use Rattle.frames.proofs.HeaderLaws.{header-over, header-read}

@@ -1,20 +1,20 @@
 -- The words of a row and their line. Assumes nothing.
-use mathlib.Core.Path.{_≡_, refl, sym, ap, ap₂, _∙_}
-use mathlib.Core.Bool.{Bool, true, false, not, _||_}
-use mathlib.Core.List.{List, [], _∷_, _++_}
-use Prim.Native.Nat.{ℕ, zero, suc, _+_, _-_, _*_, _/_, _%_, _^_, _≤_, _<_}
+use mathlib.Core.Path.{_≡_, sym, ap₂, _∙_}
+use mathlib.Core.Bool.{not, _||_}
+use mathlib.Core.List.{List, [], _∷_}
+use Prim.Native.Nat.{ℕ, suc, _+_, _-_, _*_, _/_, _%_, _≤_, _<_}
 use native.Mathlib.Omega.{arith}
 use lib.Dec.{ltb, eqb}
 use lib.ListN.{length, getD, set}
 use lib.Seq.{ext-getD}
 use borrow.Author.Tests.{ltb-false, eqb-true, not-false}
 use Rattle.cells.proofs.AnyLaws.{or-left, or-right}
-use Rattle.buffers.specs.Buffer.{planes, wide, tab, joined}
+use Rattle.buffers.specs.Buffer.{wide, tab, joined}
 use Rattle.buffers.proofs.SizeLaws.{planes-le}
 use Rattle.buffers.proofs.BufferLaws.{length-tab, getD-tab, length-joined, getD-joined, by-row}
 use Rattle.requests.specs.Answers.{first}
-use Rattle.requests.proofs.AnswerLaws.{None, first-none}
-use Rattle.frames.specs.Hex.{digitOf, byteOf, nibble, hexOf, valueOf, unframed}
+use Rattle.requests.proofs.AnswerLaws.{first-none}
+use Rattle.frames.specs.Hex.{byteOf, nibble, hexOf, valueOf, unframed}
 use Rattle.frames.specs.RowLine.{lineOf, wordsOf, readRowTests, writeRowTests}
 use Rattle.frames.proofs.HexLaws.{Framed, framed}
 use Rattle.frames.proofs.LineLaws.{Filled, filled-end, hex-length, hex-filled}

@@ -1,12 +1,10 @@
-use mathlib.Core.Path.{_≡_, refl, sym, ap, ap₂, _∙_}
-use Prim.Native.Nat.{ℕ, _<_, _+_}
+use mathlib.Core.Path.{sym, _∙_}
+use Prim.Native.Nat.{_+_}
 use Rattle.requests.specs.Answers.{first}
 use Rattle.requests.proofs.AnswerLaws.{refused, finished}
-use Rattle.requests.specs.declared.Size.{Size}
 use Rattle.requests.specs.Sizes.{over}
-use Rattle.frames.specs.Hex.{valueOf}
-use Rattle.frames.specs.Header.{sizeOf, readHeaderTests, readHeaderMeans}
-use Rattle.frames.proofs.HexLaws.{Framed, framed}
+use Rattle.frames.specs.Header.{readHeaderTests, readHeaderMeans}
+use Rattle.frames.proofs.HexLaws.{framed}
 use Rattle.frames.proofs.HeaderLaws.{header-read, header-over}
 use borrow.Author.Needs.{needs}
 use native.Mathlib.Omega.{arith}

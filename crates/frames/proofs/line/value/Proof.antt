@@ -1,5 +1,5 @@
 use mathlib.Core.Path.{_≡_, ap, _∙_}
-use Prim.Native.Nat.{ℕ, _-_, _≤_}
+use Prim.Native.Nat.{_-_, _≤_}
 use Rattle.frames.specs.Hex.{valueOf}
 use Rattle.frames.proofs.HexLaws.{value-none, value-next, value-room}
 use borrow.Author.Needs.{needs}

@@ -1,9 +1,9 @@
-use mathlib.Core.Path.{_≡_, sym, ap, _∙_}
-use Prim.Native.Nat.{ℕ, _*_}
+use mathlib.Core.Path.{sym, ap, _∙_}
+use Prim.Native.Nat.{ℕ}
 use lib.ListN.{length}
 use Rattle.requests.proofs.AnswerLaws.{refused, finished}
 use Rattle.frames.specs.RowLine.{wordsOf, readRowMeans}
-use Rattle.frames.proofs.RowLaws.{Readable, readable-row}
+use Rattle.frames.proofs.RowLaws.{readable-row}
 use borrow.Author.Needs.{needs}
 use native.Mathlib.Omega.{arith}
 use Rattle.frames.proofs.row.read_row.Statement.{statement}

@@ -1,7 +1,7 @@
-use mathlib.Core.Path.{_≡_, refl, sym, ap, _∙_}
-use Prim.Native.Nat.{ℕ, _+_, _-_, _*_, _/_, _%_, _≤_}
+use mathlib.Core.Path.{_≡_, sym, _∙_}
+use Prim.Native.Nat.{_+_, _-_, _*_, _≤_}
 use lib.ListN.{length, length-set}
-use Rattle.frames.specs.Hex.{byteOf, nibble}
+use Rattle.frames.specs.Hex.{nibble}
 use Rattle.frames.proofs.LineLaws.{Filled, filled-none, filled-next}
 use Rattle.frames.proofs.RowLaws.{byteAt, row-written}
 use native.Mathlib.Omega.{arith}
