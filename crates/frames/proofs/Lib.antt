@@ -6,3 +6,4 @@ pub mod HeaderLaws
 pub mod RowLaws
 pub mod RoundTrips
 pub mod Outcomes
+pub mod Examples
