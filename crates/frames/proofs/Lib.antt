@@ -1,0 +1,9 @@
+-- Laws that belong to no one function, for this crate and those above it.
+pub mod HexLaws
+pub mod DigitLaws
+pub mod LineLaws
+pub mod HeaderLaws
+pub mod RowLaws
+pub mod RoundTrips
+pub mod Outcomes
+pub mod Examples

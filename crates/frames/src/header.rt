@@ -1,0 +1,79 @@
+// The header line: rows, then columns, four digits each, and byte 10.
+ghost use mathlib.Core.Path.{_≡_};
+ghost use mathlib.Core.List.{_++_, _∷_, []};
+ghost use Prim.Native.Nat.{_+_, _≤_};
+ghost use lib.ListN.{length};
+ghost use Rattle.requests.specs.Answers.{number};
+ghost use Rattle.frames.specs.Hex.{hexOf};
+ghost use Rattle.frames.specs.Header.{readHeaderMeans, writeHeaderMeans};
+use super::digit::byte_of;
+use super::line::unframed;
+use super::line::value;
+use requests::Answer;
+use requests::Size;
+use requests::sizes::over;
+
+// An answer, and the counts that a header says: both 0 where it is refused.
+pub struct Header {
+    pub answer: Answer,
+    pub rows: u64,
+    pub columns: u64,
+}
+
+pub fn read_header(line: &[u8]) -> Header
+    ensures { λ r. ⌜ (number (r .answer), (r .rows, r .columns)) ≡ readHeaderMeans (now (line .entry)) ⌝ }
+{
+    if unframed(line, 8) {
+        return Header {
+            answer: Answer::NotAFrame,
+            rows: 0,
+            columns: 0,
+        };
+    }
+    let rows = value(line, 0, 4);
+    let columns = value(line, 4, 4);
+    let s = Size {
+        rows: rows,
+        columns: columns,
+    };
+    if over(s) {
+        return Header {
+            answer: Answer::TooLarge,
+            rows: 0,
+            columns: 0,
+        };
+    }
+    Header {
+        answer: Answer::Done,
+        rows: rows,
+        columns: columns,
+    }
+}
+
+// The n digits of v, and byte 10.
+fn put(v: u64, n: usize, line: &mut [u8])
+    requires { ⌜ (n ≤ 16) × (length (now line) ≡ n + 1) ⌝ }
+    ensures { λ _. ⌜ now (line .exit) ≡ hexOf n v ++ (10 ∷ []) ⌝ }
+{
+    let mut k = 0;
+    while k < n {
+        let t = (n - 1 - k) as u64;
+        line[k] = byte_of((v >> (4 * t)) % 16);
+        k += 1;
+    }
+    line[n] = 10;
+}
+
+// The two counts are one number of eight digits.
+pub fn write_header(s: Size, line: &mut [u8]) -> Answer
+    ensures { λ r. ⌜ (number r, now (line .exit)) ≡ writeHeaderMeans s (now (line .entry)) ⌝ }
+{
+    if over(s) {
+        return Answer::TooLarge;
+    }
+    if line.len() != 9 {
+        return Answer::LengthWrong;
+    }
+    put(s.rows * 65536 + s.columns, 8, line);
+    Answer::Done
+}
