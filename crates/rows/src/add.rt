@@ -62,6 +62,9 @@ pub fn add_row(t: &mut [u64], b: &[u64], q: usize, x: usize, y: usize, z: usize)
         add_two(t, b, q, x + i, y + i, z + i);
         j += 4;
     }
+    if j == q {
+        return;
+    }
     add_rest(t, b, q, q - j, x + j, y + j, z + j);
 }
 

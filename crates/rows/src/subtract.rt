@@ -62,6 +62,9 @@ pub fn subtract_row(t: &mut [u64], b: &[u64], q: usize, x: usize, y: usize, z: u
         subtract_two(t, b, q, x + i, y + i, z + i);
         j += 4;
     }
+    if j == q {
+        return;
+    }
     subtract_rest(t, b, q, q - j, x + j, y + j, z + j);
 }
 

@@ -66,26 +66,32 @@ loop-again c =
     let e : c .before .before .before .before .before .before .before .before .before .loop .j + 4 ≡ c .before .before .before .before .before .before .before .before .before .loop .j + 2 + 2 = omega arith in
     (omega arith, rw e (next sub3 (c .before .before .before .before .before .before .before .before .before .before .before .before .before .args .q) (c .before .before .before .before .before .before .before .before .before .before .before .before .before .args .q) (c .before .before .before .before .before .before .before .before .before .before .before .before .before .args .x) (c .before .before .before .before .before .before .before .before .before .before .before .before .before .args .y) (c .before .before .before .before .before .before .before .before .before .before .before .before .before .args .z) (c .before .before .before .before .before .before .before .before .before .before .before .before .before .args .t .now) (c .before .before .before .before .before .before .before .before .before .before .before .before .before .args .b .now) (c .before .before .before .before .before .before .before .before .before .loop .j + 2) 2 _ _ (c .before .before .before .before .before .before .before .before .before .before .before .before .before .pre) (omega arith) (next sub3 (c .before .before .before .before .before .before .before .before .before .before .before .before .before .args .q) (c .before .before .before .before .before .before .before .before .before .before .before .before .before .args .q) (c .before .before .before .before .before .before .before .before .before .before .before .before .before .args .x) (c .before .before .before .before .before .before .before .before .before .before .before .before .before .args .y) (c .before .before .before .before .before .before .before .before .before .before .before .before .before .args .z) (c .before .before .before .before .before .before .before .before .before .before .before .before .before .args .t .now) (c .before .before .before .before .before .before .before .before .before .before .before .before .before .args .b .now) (c .before .before .before .before .before .before .before .before .before .loop .j) 2 _ _ (c .before .before .before .before .before .before .before .before .before .before .before .before .before .pre) (omega arith) (c .before .before .before .before .before .before .before .before .before .loop .inv .1) (c .before .before .before .before .before .before .subtract-two .ensures)) (c .before .before .subtract-two2 .ensures)))
 
+same-length-2 : tie.Need-same-length-2 Inv-loop μ-loop
+same-length-2 c = c .before .before .loop .inv .1 .long
+
+returns-2 : tie.Need-returns-2 Inv-loop μ-loop
+returns-2 c = made-count _ (c .before .before .before .before .before .before .args .x) (c .before .before .before .before .before .before .args .q) (c .before .before .loop .j) (c .before .before .before .before .before .before .args .q) _ _ (c .if2 .taken) (c .before .before .loop .inv .1)
+
 sub-subtract-rest : tie.Need-sub-subtract-rest Inv-loop μ-loop
 sub-subtract-rest c = omega arith
 
 add-subtract-rest : tie.Need-add-subtract-rest Inv-loop μ-loop
-add-subtract-rest c = omega (arith, c .before .before .before .before .before .before .pre .first .room, c .before .before .before .before .before .before .pre .second .room)
+add-subtract-rest c = omega (arith, c .before .before .before .before .before .before .before .pre .first .room, c .before .before .before .before .before .before .before .pre .second .room)
 
 add-subtract-rest-2 : tie.Need-add-subtract-rest-2 Inv-loop μ-loop
-add-subtract-rest-2 c = omega (arith, c .before .before .before .before .before .before .pre .first .room, c .before .before .before .before .before .before .pre .second .room)
+add-subtract-rest-2 c = omega (arith, c .before .before .before .before .before .before .before .pre .first .room, c .before .before .before .before .before .before .before .pre .second .room)
 
 add-subtract-rest-3 : tie.Need-add-subtract-rest-3 Inv-loop μ-loop
-add-subtract-rest-3 c = omega (arith, c .before .before .before .before .before .before .pre .first .room, c .before .before .before .before .before .before .pre .second .room)
+add-subtract-rest-3 c = omega (arith, c .before .before .before .before .before .before .before .pre .first .room, c .before .before .before .before .before .before .before .pre .second .room)
 
 subtract-rest-requires : tie.Need-subtract-rest-requires Inv-loop μ-loop
-subtract-rest-requires c κs = (omega arith, later (c .before .before .before .before .before .before .args .q) (c .before .before .before .before .before .before .args .q) (c .before .before .before .before .before .before .args .x) (c .before .before .before .before .before .before .args .y) (c .before .before .before .before .before .before .args .z) (c .before .before .before .before .before .before .args .t .now) (c .before .before .before .before .before .before .args .b .now) (c .before .before .before .before .before .before .pre) (of2 sub3 (c .before .before .before .before .before .before .args .q) (c .before .before .before .before .before .before .args .t .now) (c .before .before .before .before .before .before .args .y) (c .before .before .before .before .before .before .args .b .now) (c .before .before .before .before .before .before .args .z)) (c .before .before .loop .j) _ (c .before .before .loop .inv .1) (c .before .before .before .before .before .before .args .q - c .before .before .loop .j) (omega arith))
+subtract-rest-requires c κs = (omega arith, later (c .before .before .before .before .before .before .before .args .q) (c .before .before .before .before .before .before .before .args .q) (c .before .before .before .before .before .before .before .args .x) (c .before .before .before .before .before .before .before .args .y) (c .before .before .before .before .before .before .before .args .z) (c .before .before .before .before .before .before .before .args .t .now) (c .before .before .before .before .before .before .before .args .b .now) (c .before .before .before .before .before .before .before .pre) (of2 sub3 (c .before .before .before .before .before .before .before .args .q) (c .before .before .before .before .before .before .before .args .t .now) (c .before .before .before .before .before .before .before .args .y) (c .before .before .before .before .before .before .before .args .b .now) (c .before .before .before .before .before .before .before .args .z)) (c .before .before .before .loop .j) _ (c .before .before .before .loop .inv .1) (c .before .before .before .before .before .before .before .args .q - c .before .before .before .loop .j) (omega arith))
 
-same-length-2 : tie.Need-same-length-2 Inv-loop μ-loop
-same-length-2 c = c .before .before .subtract-rest .ensures .long ∙ c .before .before .before .before .before .loop .inv .1 .long
+same-length-3 : tie.Need-same-length-3 Inv-loop μ-loop
+same-length-3 c = c .before .before .subtract-rest .ensures .long ∙ c .before .before .before .before .before .before .loop .inv .1 .long
 
-returns-2 : tie.Need-returns-2 Inv-loop μ-loop
-returns-2 c = last sub3 (c .before .before .before .before .before .before .before .before .before .args .q) (c .before .before .before .before .before .before .before .before .before .args .x) (c .before .before .before .before .before .before .before .before .before .args .y) (c .before .before .before .before .before .before .before .before .before .args .z) (c .before .before .before .before .before .before .before .before .before .args .t .now) (c .before .before .before .before .before .before .before .before .before .args .b .now) (c .before .before .before .before .before .loop .j) _ _ (c .before .before .before .before .before .before .before .before .before .pre) (omega arith) (c .before .before .before .before .before .loop .inv .1) (c .before .before .subtract-rest .ensures)
+returns-3 : tie.Need-returns-3 Inv-loop μ-loop
+returns-3 c = last sub3 (c .before .before .before .before .before .before .before .before .before .before .args .q) (c .before .before .before .before .before .before .before .before .before .before .args .x) (c .before .before .before .before .before .before .before .before .before .before .args .y) (c .before .before .before .before .before .before .before .before .before .before .args .z) (c .before .before .before .before .before .before .before .before .before .before .args .t .now) (c .before .before .before .before .before .before .before .before .before .before .args .b .now) (c .before .before .before .before .before .before .loop .j) _ _ (c .before .before .before .before .before .before .before .before .before .before .pre) (omega arith) (c .before .before .before .before .before .before .loop .inv .1) (c .before .before .subtract-rest .ensures)
 
 pub subtract-row-spec : {M : Type 1} → statement M
 subtract-row-spec =
@@ -110,10 +116,12 @@ subtract-row-spec =
     add-j
     loop-less
     loop-again
+    same-length-2
+    returns-2
     sub-subtract-rest
     add-subtract-rest
     add-subtract-rest-2
     add-subtract-rest-3
     subtract-rest-requires
-    same-length-2
-    returns-2)
+    same-length-3
+    returns-3)
