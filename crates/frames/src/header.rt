@@ -1,12 +1,8 @@
 // The header line: rows, then columns, four digits each, and byte 10.
 ghost use mathlib.Core.Path.{_≡_};
-ghost use mathlib.Core.List.{_++_, _∷_, []};
-ghost use Prim.Native.Nat.{_+_, _≤_};
-ghost use lib.ListN.{length};
 ghost use Rattle.requests.specs.Answers.{number};
-ghost use Rattle.frames.specs.Hex.{hexOf};
 ghost use Rattle.frames.specs.Header.{readHeaderMeans, writeHeaderMeans};
-use super::digit::byte_of;
+use super::line::put;
 use super::line::unframed;
 use super::line::value;
 use requests::Answer;
@@ -48,20 +44,6 @@ pub fn read_header(line: &[u8]) -> Header
         rows: rows,
         columns: columns,
     }
-}
-
-// The n digits of v, and byte 10.
-fn put(v: u64, n: usize, line: &mut [u8])
-    requires { ⌜ (n ≤ 16) × (length (now line) ≡ n + 1) ⌝ }
-    ensures { λ _. ⌜ now (line .exit) ≡ hexOf n v ++ (10 ∷ []) ⌝ }
-{
-    let mut k = 0;
-    while k < n {
-        let t = (n - 1 - k) as u64;
-        line[k] = byte_of((v >> (4 * t)) % 16);
-        k += 1;
-    }
-    line[n] = 10;
 }
 
 // The two counts are one number of eight digits.

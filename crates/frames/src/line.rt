@@ -1,8 +1,10 @@
-// What the lines share: whether all is digits, and the number that some digits say.
+// What the lines share: whether all is digits, the number that some digits say, and a line of digits written.
 ghost use mathlib.Core.Path.{_≡_};
+ghost use mathlib.Core.List.{_++_, _∷_, []};
 ghost use Prim.Native.Nat.{ℕ, _+_, _≤_, _<_};
 ghost use lib.ListN.{length, getD};
-ghost use Rattle.frames.specs.Hex.{digitOf, valueOf, undigit, unframed};
+ghost use Rattle.frames.specs.Hex.{digitOf, hexOf, valueOf, undigit, unframed};
+use super::digit::byte_of;
 use super::digit::digit_of;
 
 // One of the first n bytes is no digit.
@@ -46,4 +48,18 @@ pub fn value(line: &[u8], x: usize, n: usize) -> u64
         k += 1;
     }
     v
+}
+
+// The n digits of v, and byte 10.
+pub fn put(v: u64, n: usize, line: &mut [u8])
+    requires { ⌜ (n ≤ 16) × (length (now line) ≡ n + 1) ⌝ }
+    ensures { λ _. ⌜ now (line .exit) ≡ hexOf n v ++ (10 ∷ []) ⌝ }
+{
+    let mut k = 0;
+    while k < n {
+        let t = (n - 1 - k) as u64;
+        line[k] = byte_of((v >> (4 * t)) % 16);
+        k += 1;
+    }
+    line[n] = 10;
 }

@@ -17,6 +17,7 @@ use Rattle.requests.specs.declared.Size.{Size}
 use Rattle.requests.specs.declared.Answer.{Answer}
 use Rattle.requests.specs.Answers.{number, first, answered}
 use Rattle.requests.specs.Sizes.{over, unfit, faults}
+use Rattle.requests.proofs.SizeLaws.{not-over, not-unfit}
 use Rattle.requests.proofs.AnswerLaws.{None, none-first, append-none, append-front, later, finished, done-makes}
 use Rattle.steps.specs.Matrix.{sum, schoolbook}
 use Rattle.steps.specs.Step.{Step, State, run, opening}
@@ -36,16 +37,6 @@ use Rattle.matrix.specs.Opening.{fittingTests, openingTests, newJob, ope
 use Rattle.matrix.specs.Turn.{sizeA, sizeB, foundTests, turnTests, madeOf, leftOf, onJob, turnMeans}
 use Rattle.matrix.specs.Product.{endOf, productMeans}
 use Rattle.matrix.proofs.JobLaws.{meant-pos, meant-le, table-small, product-small, Fitting, fitting-ready, fitting-positive, found-positive}
-
--- ---- tests that do not hold
-
-small : (s : Size) → s .rows ≤ 1024 → s .columns ≤ 1024 → over s ≡ false
-unfolding over
-small s h l = rw (le-ltb 1024 (s .rows) h, le-ltb 1024 (s .columns) l)
-
-fits : (s : Size) (n : ℕ) → n ≡ words (s .rows) (s .columns) → unfit s n ≡ false
-unfolding unfit
-fits s n e = rw (eq-eqb n (words (s .rows) (s .columns)) e)
 
 -- turns that are given one after another: each is handed the record last answered and the same matrices, table and product, and is accepted
 pub data Turns (a b : List ℕ) : Job → List ℕ → List ℕ → List ℕ → Job → List ℕ → List ℕ → Type 0 where
@@ -101,12 +92,12 @@ module _ (x y : Size) (w : ℕ) (a b : List ℕ) (hm : x .rows ≤ 1024) (hl : x
       let tt′ = tests-legal (2 ^ k) n (tableAt d) (encode-legal (2 ^ k) n (at d .table)) in
       let tp = tests-legal m n (productAt d) (encode-legal m n (at d .product)) in
       none-first (foundTests (jobAt d) a b (tableAt d) (productAt d)) (
-        rw (small (sizeA (jobAt d)) hm hl) (small (sizeB (jobAt d)) hl hn),
+        rw (not-over (sizeA (jobAt d)) hm hl) (not-over (sizeB (jobAt d)) hl hn),
         (
           rw (ne-eqb k 0 (λ e. omega (arith, meant-pos w))) (le-ltb 8 k k8),
           (
-            rw (fits (sizeA (jobAt d)) (length a) (LA .long), fits (sizeB (jobAt d)) (length b) (LB .long), fits (tableSize (sizeB (jobAt d)) k) (length (tableAt d)) (encode-legal (2 ^ k) n (at d .table) .long))
-                (fits (productSize (sizeA (jobAt d)) (sizeB (jobAt d))) (length (productAt d)) (encode-legal m n (at d .product) .long)),
+            rw (not-unfit (sizeA (jobAt d)) (length a) (LA .long), not-unfit (sizeB (jobAt d)) (length b) (LB .long), not-unfit (tableSize (sizeB (jobAt d)) k) (length (tableAt d)) (encode-legal (2 ^ k) n (at d .table) .long))
+                (not-unfit (productSize (sizeA (jobAt d)) (sizeB (jobAt d))) (length (productAt d)) (encode-legal m n (at d .product) .long)),
             (ta .0, (ta .1, (tb .0, (tb .1, (tt′ .0, (tt′ .1, (tp .0, (tp .1, tt)))))))),
           ),
         ),

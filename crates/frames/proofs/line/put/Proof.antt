@@ -4,8 +4,8 @@ use lib.ListN.{length, length-set}
 use Rattle.frames.specs.Hex.{byteOf, nibble, hexOf}
 use Rattle.frames.proofs.LineLaws.{Filled, filled-none, filled-next, filled-end, hex-length, hex-filled}
 use native.Mathlib.Omega.{arith}
-use Rattle.frames.proofs.header.put.Statement.{statement}
-use Rattle.frames.proofs.header.put.Tie as tie
+use Rattle.frames.proofs.line.put.Statement.{statement}
+use Rattle.frames.proofs.line.put.Tie as tie
 
 abbrev Inv-loop : tie.InvT-loop
 Inv-loop v n line₀ k₀ line k = (k ≤ n) × (length line ≡ n + 1) × Filled (λ i. byteOf (nibble v (n - suc i))) k line

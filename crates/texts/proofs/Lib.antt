@@ -1,0 +1,8 @@
+-- Laws that belong to no one function, for this crate and those above it.
+pub mod LaidLaws
+pub mod TextLaws
+pub mod FoundLaws
+pub mod FramesLaws
+pub mod FactorLaws
+pub mod FormLaws
+pub mod MultiplyLaws

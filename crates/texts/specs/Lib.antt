@@ -1,0 +1,3 @@
+pub mod MatrixText
+pub mod Multiply
+pub mod Found
