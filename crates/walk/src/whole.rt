@@ -76,14 +76,7 @@ fn rows_all(product: &mut [u64], table: &[u64], a: &[u64], shape: Shape, s: usiz
 }
 
 // Block c: its table rows, and then the rows of A.
-fn block_all(
-    table: &mut [u64],
-    product: &mut [u64],
-    a: &[u64],
-    b: &[u64],
-    shape: Shape,
-    c: usize,
-)
+fn block_all(table: &mut [u64], product: &mut [u64], a: &[u64], b: &[u64], shape: Shape, c: usize)
     requires { ⌜ Within shape × Legal (2 ^ shape .width) (shape .n) (now table) × Legal (shape .m) (shape .n) (now product) × Legal (shape .m) (shape .l) (now a) × Legal (shape .l) (shape .n) (now b) × (c < blocks (shape .l) (shape .width)) ⌝ }
     ensures { λ _. ⌜ Ran (shape .width) (shape .m) (shape .n) (cell (shape .n) (now (b .entry))) (blockAt (shape .m) (shape .l) (shape .width) (cell (shape .l) (now (a .entry))) c) (now (table .entry)) (now (product .entry)) (now (table .exit)) (now (product .exit)) ⌝ }
 {
@@ -95,13 +88,7 @@ fn block_all(
     rows_all(product, table, a, shape, s, w);
 }
 
-pub fn blocks_all(
-    table: &mut [u64],
-    product: &mut [u64],
-    a: &[u64],
-    b: &[u64],
-    shape: Shape,
-)
+pub fn blocks_all(table: &mut [u64], product: &mut [u64], a: &[u64], b: &[u64], shape: Shape)
     requires { ⌜ Within shape × Legal (2 ^ shape .width) (shape .n) (now table) × Legal (shape .m) (shape .n) (now product) × Legal (shape .m) (shape .l) (now a) × Legal (shape .l) (shape .n) (now b) ⌝ }
     ensures { λ _. ⌜ Ran (shape .width) (shape .m) (shape .n) (cell (shape .n) (now (b .entry))) (steps (shape .m) (shape .l) (shape .width) (cell (shape .l) (now (a .entry)))) (now (table .entry)) (now (product .entry)) (now (table .exit)) (now (product .exit)) ⌝ }
 {

@@ -1,5 +1,4 @@
-use mathlib.Core.Path.{_≡_}
-use Prim.Native.Nat.{ℕ, _+_, _*_, _≤_}
+use Prim.Native.Nat.{_*_}
 use native.Mathlib.Omega.{arith}
 use lib.Pow.{pow-pos}
 use Rattle.buffers.specs.Buffer.{cell}
@@ -33,7 +32,7 @@ same-length-2 : tie.Need-same-length-2
 same-length-2 c = search needs
 
 returns : tie.Need-returns
-returns c = 
+returns c =
     rw (← (c .before .before .before .before .before .before .before .before .before .width .ensures)) (block-whole (c .before .before .before .before .before .before .before .before .before .before .before .before .before .before .args .shape .width) (c .before .before .before .before .before .before .before .before .before .before .before .before .before .before .args .shape .m) (c .before .before .before .before .before .before .before .before .before .before .before .before .before .before .args .shape .n) (c .before .before .before .before .before .before .before .before .before .before .before .before .before .before .args .shape .l) (cell (c .before .before .before .before .before .before .before .before .before .before .before .before .before .before .args .shape .l) (c .before .before .before .before .before .before .before .before .before .before .before .before .before .before .args .a .now)) (cell (c .before .before .before .before .before .before .before .before .before .before .before .before .before .before .args .shape .n) (c .before .before .before .before .before .before .before .before .before .before .before .before .before .before .args .b .now)) (c .before .before .before .before .before .before .before .before .before .before .before .before .before .before .args .c * c .before .before .before .before .before .before .before .before .before .before .before .before .before .before .args .shape .width) (c .before .before .before .before .before .before .before .before .before .width .result) _ (omega (arith, c .before .before .before .before .before .before .before .before .before .width .ensures, width-le (c .before .before .before .before .before .before .before .before .before .before .before .before .before .before .args .shape .l) (c .before .before .before .before .before .before .before .before .before .before .before .before .before .before .args .shape .width) (c .before .before .before .before .before .before .before .before .before .before .before .before .before .before .args .c))) (shift-one (c .before .before .before .before .before .before .before .before .before .width .result) (omega (arith, c .before .before .before .before .before .before .before .before .before .width .ensures, width-le (c .before .before .before .before .before .before .before .before .before .before .before .before .before .before .args .shape .l) (c .before .before .before .before .before .before .before .before .before .before .before .before .before .before .args .shape .width) (c .before .before .before .before .before .before .before .before .before .before .before .before .before .before .args .c), c .before .before .before .before .before .before .before .before .before .before .before .before .before .before .pre .0 .width))) _ _ _ _ (c .before .before .before .before .before .before .before .table-part .ensures (c .before .before .before .before .before .before .before .before .before .before .before .before .before .before .args .product .now) (c .before .before .before .before .before .before .before .before .before .before .before .before .before .before .pre .2) (λ n. omega (arith, c .before .before .before .before .before .before .before .before .before .before .before .before .slice-known2 .given n))) (c .before .before .rows-all .ensures (cell (c .before .before .before .before .before .before .before .before .before .before .before .before .before .before .args .shape .n) (c .before .before .before .before .before .before .before .before .before .before .before .before .before .before .args .b .now))))
 
 pub block-all-spec : {M : Type 1} → statement M

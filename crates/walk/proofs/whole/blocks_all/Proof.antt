@@ -1,5 +1,4 @@
 use mathlib.Core.Path.{_≡_, refl, subst, _∙_}
-use mathlib.Core.List.{List}
 use Prim.Native.Nat.{ℕ, _+_, _-_, _^_, _≤_}
 use lib.ListN.{length}
 use native.Mathlib.Omega.{arith}
@@ -34,7 +33,7 @@ loop-less : tie.Need-loop-less Inv-loop μ-loop
 loop-less c = omega arith
 
 loop-again : tie.Need-loop-again Inv-loop μ-loop
-loop-again c = 
+loop-again c =
     let next : Ran (c .before .before .before .before .before .before .before .before .before .before .before .before .before .before .args .shape .width) (c .before .before .before .before .before .before .before .before .before .before .before .before .before .before .args .shape .m) (c .before .before .before .before .before .before .before .before .before .before .before .before .before .before .args .shape .n) (cell (c .before .before .before .before .before .before .before .before .before .before .before .before .before .before .args .shape .n) (c .before .before .before .before .before .before .before .before .before .before .before .before .before .before .args .b .now)) (each 0 (c .before .before .before .before .before .before .before .before .loop .d + 1) (blockAt (c .before .before .before .before .before .before .before .before .before .before .before .before .before .before .args .shape .m) (c .before .before .before .before .before .before .before .before .before .before .before .before .before .before .args .shape .l) (c .before .before .before .before .before .before .before .before .before .before .before .before .before .before .args .shape .width) (cell (c .before .before .before .before .before .before .before .before .before .before .before .before .before .before .args .shape .l) (c .before .before .before .before .before .before .before .before .before .before .before .before .before .before .args .a .now)))) (c .before .before .before .before .before .before .before .before .before .before .before .before .before .before .args .table .now) (c .before .before .before .before .before .before .before .before .before .before .before .before .before .before .args .product .now) (c .before .before .before .before .block-all .last .0) (c .before .before .before .before .block-all .last .1 .0) =
     rw (each-last (blockAt (c .before .before .before .before .before .before .before .before .before .before .before .before .before .before .args .shape .m) (c .before .before .before .before .before .before .before .before .before .before .before .before .before .before .args .shape .l) (c .before .before .before .before .before .before .before .before .before .before .before .before .before .before .args .shape .width) (cell (c .before .before .before .before .before .before .before .before .before .before .before .before .before .before .args .shape .l) (c .before .before .before .before .before .before .before .before .before .before .before .before .before .before .args .a .now))) 0 (c .before .before .before .before .before .before .before .before .loop .d) (omega arith)) (ran-more (c .before .before .before .before .before .before .before .before .before .before .before .before .before .before .args .shape .width) (c .before .before .before .before .before .before .before .before .before .before .before .before .before .before .args .shape .m) (c .before .before .before .before .before .before .before .before .before .before .before .before .before .before .args .shape .n) (cell (c .before .before .before .before .before .before .before .before .before .before .before .before .before .before .args .shape .n) (c .before .before .before .before .before .before .before .before .before .before .before .before .before .before .args .b .now)) (c .before .before .before .before .before .before .before .before .before .before .before .before .before .before .args .shape .l) (each 0 (c .before .before .before .before .before .before .before .before .loop .d) (blockAt (c .before .before .before .before .before .before .before .before .before .before .before .before .before .before .args .shape .m) (c .before .before .before .before .before .before .before .before .before .before .before .before .before .before .args .shape .l) (c .before .before .before .before .before .before .before .before .before .before .before .before .before .before .args .shape .width) (cell (c .before .before .before .before .before .before .before .before .before .before .before .before .before .before .args .shape .l) (c .before .before .before .before .before .before .before .before .before .before .before .before .before .before .args .a .now)))) (blockAt (c .before .before .before .before .before .before .before .before .before .before .before .before .before .before .args .shape .m) (c .before .before .before .before .before .before .before .before .before .before .before .before .before .before .args .shape .l) (c .before .before .before .before .before .before .before .before .before .before .before .before .before .before .args .shape .width) (cell (c .before .before .before .before .before .before .before .before .before .before .before .before .before .before .args .shape .l) (c .before .before .before .before .before .before .before .before .before .before .before .before .before .before .args .a .now)) (c .before .before .before .before .before .before .before .before .loop .d)) _ _ _ _ _ _ (blocks-fit (c .before .before .before .before .before .before .before .before .before .before .before .before .before .before .args .shape .m) (c .before .before .before .before .before .before .before .before .before .before .before .before .before .before .args .shape .l) (c .before .before .before .before .before .before .before .before .before .before .before .before .before .before .args .shape .width) (c .before .before .before .before .before .before .before .before .loop .d) (cell (c .before .before .before .before .before .before .before .before .before .before .before .before .before .before .args .shape .l) (c .before .before .before .before .before .before .before .before .before .before .before .before .before .before .args .a .now)) (c .before .before .before .before .before .before .before .before .before .before .before .before .before .before .pre .0 .some) (omega (arith, c .before .before .before .before .before .before .before .before .before .blocks2 .ensures))) (c .before .before .before .before .before .before .before .before .loop .inv .1) (c .before .before .before .before .block-all .ensures)) in (
       omega arith,
@@ -53,7 +52,7 @@ same-length-2 c = c .before .loop .inv .3
 
 returns : tie.Need-returns Inv-loop μ-loop
 unfolding steps
-returns c = 
+returns c =
     let e : c .before .loop .d ≡ blocks (c .before .before .before .before .before .before .before .args .shape .l) (c .before .before .before .before .before .before .before .args .shape .width) = omega (arith, c .before .before .blocks2 .ensures) in
     subst (λ (d : ℕ). Ran (c .before .before .before .before .before .before .before .args .shape .width) (c .before .before .before .before .before .before .before .args .shape .m) (c .before .before .before .before .before .before .before .args .shape .n) (cell (c .before .before .before .before .before .before .before .args .shape .n) (c .before .before .before .before .before .before .before .args .b .now)) (each 0 d (blockAt (c .before .before .before .before .before .before .before .args .shape .m) (c .before .before .before .before .before .before .before .args .shape .l) (c .before .before .before .before .before .before .before .args .shape .width) (cell (c .before .before .before .before .before .before .before .args .shape .l) (c .before .before .before .before .before .before .before .args .a .now)))) (c .before .before .before .before .before .before .before .args .table .now) (c .before .before .before .before .before .before .before .args .product .now) (c .before .loop .table) (c .before .loop .product)) e (c .before .loop .inv .1)
 

@@ -1,5 +1,3 @@
-use mathlib.Core.Path.{_≡_}
-use Prim.Native.Nat.{ℕ, _^_}
 use native.Mathlib.Omega.{arith}
 use lib.Pow.{pow-mono}
 use Rattle.buffers.specs.Buffer.{cell}
@@ -20,7 +18,7 @@ plus-all-requires : tie.Need-plus-all-requires
 plus-all-requires c κs = (c .before .before .before .before .before .pre .0, c .before .before .before .before .before .pre .1, c .before .before .before .before .before .pre .3, c .before .before .before .before .before .pre .4, c .before .before .before .before .before .pre .9, omega (arith, c .before .bits .ensures .0, bits-lt 1 (cell (c .before .before .before .before .before .args .shape .l) (c .before .before .before .before .before .args .a .now) (c .before .before .before .before .before .args .i)) (c .before .before .before .before .before .args .w) (c .before .before .before .before .before .args .s), pow-mono (c .before .before .before .before .before .pre .7)))
 
 minus-all-requires : tie.Need-minus-all-requires
-minus-all-requires c κs = 
+minus-all-requires c κs =
     let zero : Matrix = λ i j. 0 in
     (c .before .before .before .before .before .before .before .before .before .pre .0, c .before .before .before .before .before .before .before .before .before .pre .1, ran-product (c .before .before .before .before .before .before .before .before .before .args .shape .width) (c .before .before .before .before .before .before .before .before .before .args .shape .m) (c .before .before .before .before .before .before .before .before .before .args .shape .n) zero _ _ _ _ _ (c .before .before .before .plus-all .ensures zero), c .before .before .before .before .before .before .before .before .before .pre .4, c .before .before .before .before .before .before .before .before .before .pre .9, omega (arith, c .before .before .before .before .before .bits .ensures .1, bits-lt 2 (cell (c .before .before .before .before .before .before .before .before .before .args .shape .l) (c .before .before .before .before .before .before .before .before .before .args .a .now) (c .before .before .before .before .before .before .before .before .before .args .i)) (c .before .before .before .before .before .before .before .before .before .args .w) (c .before .before .before .before .before .before .before .before .before .args .s), pow-mono (c .before .before .before .before .before .before .before .before .before .pre .7)))
 
@@ -29,7 +27,7 @@ same-length c = search needs
 
 returns : tie.Need-returns
 unfolding rowSteps
-returns c = 
+returns c =
     rw (← (c .before .before .before .before .before .before .before .before .bits .ensures .0), ← (c .before .before .before .before .before .before .before .before .bits .ensures .1)) (λ B. ran-more (c .before .before .before .before .before .before .before .before .before .before .before .before .args .shape .width) (c .before .before .before .before .before .before .before .before .before .before .before .before .args .shape .m) (c .before .before .before .before .before .before .before .before .before .before .before .before .args .shape .n) B (c .before .before .before .before .before .before .before .before .before .before .before .before .args .shape .l) (unless0 (plus (c .before .before .before .before .before .before .before .before .before .before .before .before .args .i)) (c .before .before .before .before .before .before .before .before .bits .result .ones)) (unless0 (minus (c .before .before .before .before .before .before .before .before .before .before .before .before .args .i)) (c .before .before .before .before .before .before .before .before .bits .result .twos)) _ _ _ _ _ _ (unless-fits (c .before .before .before .before .before .before .before .before .before .before .before .before .args .shape .m) (c .before .before .before .before .before .before .before .before .before .before .before .before .args .shape .l) (c .before .before .before .before .before .before .before .before .before .before .before .before .args .shape .width) (c .before .before .before .before .before .before .before .before .before .before .before .before .args .i) _ (c .before .before .before .before .before .before .before .before .before .before .before .before .pre .9) (omega (arith, c .before .before .before .before .before .before .before .before .bits .ensures .1, bits-lt 2 (cell (c .before .before .before .before .before .before .before .before .before .before .before .before .args .shape .l) (c .before .before .before .before .before .before .before .before .before .before .before .before .args .a .now) (c .before .before .before .before .before .before .before .before .before .before .before .before .args .i)) (c .before .before .before .before .before .before .before .before .before .before .before .before .args .w) (c .before .before .before .before .before .before .before .before .before .before .before .before .args .s), pow-mono (c .before .before .before .before .before .before .before .before .before .before .before .before .pre .7)))) (c .before .before .before .before .before .before .plus-all .ensures B) (c .before .before .minus-all .ensures B))
 
 pub row-all-spec : {M : Type 1} → statement M

@@ -1,6 +1,5 @@
 use mathlib.Core.Path.{_≡_, refl, subst, _∙_}
-use mathlib.Core.List.{List}
-use Prim.Native.Nat.{ℕ, _+_, _-_, _^_, _≤_}
+use Prim.Native.Nat.{ℕ, _+_, _-_, _≤_}
 use lib.ListN.{length}
 use native.Mathlib.Omega.{arith}
 use Rattle.cells.specs.Digit.{Matrix}
@@ -39,7 +38,7 @@ loop-less : tie.Need-loop-less Inv-loop μ-loop
 loop-less c = omega arith
 
 loop-again : tie.Need-loop-again Inv-loop μ-loop
-loop-again c = 
+loop-again c =
     let next : (B : Matrix) → Ran (c .before .before .before .before .before .before .before .before .before .before .before .args .shape .width) (c .before .before .before .before .before .before .before .before .before .before .before .args .shape .m) (c .before .before .before .before .before .before .before .before .before .before .before .args .shape .n) B (each 0 (c .before .before .before .before .before .loop .i + 1) (rowSteps (cell (c .before .before .before .before .before .before .before .before .before .before .before .args .shape .l) (c .before .before .before .before .before .before .before .before .before .before .before .args .a .now)) (c .before .before .before .before .before .before .before .before .before .before .before .args .s) (c .before .before .before .before .before .before .before .before .before .before .before .args .w))) (c .before .before .before .before .before .before .before .before .before .before .before .args .table .now) (c .before .before .before .before .before .before .before .before .before .before .before .args .product .now) (c .before .before .before .before .before .before .before .before .before .before .before .args .table .now) (c .before .before .row-all .last .0) =
     λ B. rw (each-last (rowSteps (cell (c .before .before .before .before .before .before .before .before .before .before .before .args .shape .l) (c .before .before .before .before .before .before .before .before .before .before .before .args .a .now)) (c .before .before .before .before .before .before .before .before .before .before .before .args .s) (c .before .before .before .before .before .before .before .before .before .before .before .args .w)) 0 (c .before .before .before .before .before .loop .i) (omega arith)) (ran-more (c .before .before .before .before .before .before .before .before .before .before .before .args .shape .width) (c .before .before .before .before .before .before .before .before .before .before .before .args .shape .m) (c .before .before .before .before .before .before .before .before .before .before .before .args .shape .n) B (c .before .before .before .before .before .before .before .before .before .before .before .args .shape .l) (each 0 (c .before .before .before .before .before .loop .i) (rowSteps (cell (c .before .before .before .before .before .before .before .before .before .before .before .args .shape .l) (c .before .before .before .before .before .before .before .before .before .before .before .args .a .now)) (c .before .before .before .before .before .before .before .before .before .before .before .args .s) (c .before .before .before .before .before .before .before .before .before .before .before .args .w))) (rowSteps (cell (c .before .before .before .before .before .before .before .before .before .before .before .args .shape .l) (c .before .before .before .before .before .before .before .before .before .before .before .args .a .now)) (c .before .before .before .before .before .before .before .before .before .before .before .args .s) (c .before .before .before .before .before .before .before .before .before .before .before .args .w) (c .before .before .before .before .before .loop .i)) _ _ _ _ _ _ (fit-wider (c .before .before .before .before .before .before .before .before .before .before .before .args .shape .m) (c .before .before .before .before .before .before .before .before .before .before .before .args .shape .l) (c .before .before .before .before .before .before .before .before .before .before .before .args .w) (c .before .before .before .before .before .before .before .before .before .before .before .args .shape .width) (c .before .before .before .before .before .before .before .before .before .before .before .pre .5) (rowSteps (cell (c .before .before .before .before .before .before .before .before .before .before .before .args .shape .l) (c .before .before .before .before .before .before .before .before .before .before .before .args .a .now)) (c .before .before .before .before .before .before .before .before .before .before .before .args .s) (c .before .before .before .before .before .before .before .before .before .before .before .args .w) (c .before .before .before .before .before .loop .i)) (row-fits (c .before .before .before .before .before .before .before .before .before .before .before .args .shape .m) (c .before .before .before .before .before .before .before .before .before .before .before .args .shape .l) (cell (c .before .before .before .before .before .before .before .before .before .before .before .args .shape .l) (c .before .before .before .before .before .before .before .before .before .before .before .args .a .now)) (c .before .before .before .before .before .before .before .before .before .before .before .args .s) (c .before .before .before .before .before .before .before .before .before .before .before .args .w) (c .before .before .before .before .before .loop .i) (omega arith))) (c .before .before .before .before .before .loop .inv .1 B) (c .before .before .row-all .ensures B)) in (
       omega arith,
@@ -52,7 +51,7 @@ same-length : tie.Need-same-length Inv-loop μ-loop
 same-length c = c .before .loop .inv .2
 
 returns : tie.Need-returns Inv-loop μ-loop
-returns c = 
+returns c =
     let e : c .before .loop .i ≡ c .before .before .before .before .before .before .before .args .shape .m = omega arith in
     λ B. subst (λ (i : ℕ). Ran (c .before .before .before .before .before .before .before .args .shape .width) (c .before .before .before .before .before .before .before .args .shape .m) (c .before .before .before .before .before .before .before .args .shape .n) B (each 0 i (rowSteps (cell (c .before .before .before .before .before .before .before .args .shape .l) (c .before .before .before .before .before .before .before .args .a .now)) (c .before .before .before .before .before .before .before .args .s) (c .before .before .before .before .before .before .before .args .w))) (c .before .before .before .before .before .before .before .args .table .now) (c .before .before .before .before .before .before .before .args .product .now) (c .before .before .before .before .before .before .before .args .table .now) (c .before .loop .product)) e (c .before .loop .inv .1 B)
 
