@@ -127,18 +127,18 @@ static void row_step(struct work *w)
 }
 
 #define WORDS(i) w->at[i], w->words[i]
-#define ROW_STEP(name, call)                                           \
-    static uint64_t ours_##name(struct work *w, size_t times)          \
-    {                                                                  \
-        return bench_##name(WORDS(0), WORDS(1), w->size, times);       \
-    }                                                                  \
-    static uint64_t c_##name(struct work *w, size_t times)             \
-    {                                                                  \
-        uint64_t *d = w->at[0], *s = w->at[1];                         \
-        size_t q = w->size;                                            \
-        for (size_t i = 0; i < times; i++)                             \
-            call;                                                      \
-        return 0;                                                      \
+#define ROW_STEP(name, call)                                     \
+    static uint64_t ours_##name(struct work *w, size_t times)    \
+    {                                                            \
+        return bench_##name(WORDS(0), WORDS(1), w->size, times); \
+    }                                                            \
+    static uint64_t c_##name(struct work *w, size_t times)       \
+    {                                                            \
+        uint64_t *d = w->at[0], *s = w->at[1];                   \
+        size_t q = w->size;                                      \
+        for (size_t i = 0; i < times; i++)                       \
+            call;                                                \
+        return 0;                                                \
     }
 
 ROW_STEP(add, add_row(d, s, q))
