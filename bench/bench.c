@@ -16,28 +16,19 @@
 #include "c/product.h"
 #include "c/requests.h"
 
-// Ours: a slice is its start and its number of elements. 0 is done, anything else a refusal; a turn gives back the steps done, or REFUSED.
-uint64_t bench_add(uint64_t *d, size_t d_len, const uint64_t *s, size_t s_len, size_t q, size_t times);
-uint64_t bench_subtract(uint64_t *d, size_t d_len, const uint64_t *s, size_t s_len, size_t q, size_t times);
-uint64_t bench_table_step(uint64_t *d, size_t d_len, const uint64_t *s, size_t s_len, size_t q, size_t times);
+// Ours: a slice is its start and its number of elements. 0 is done, anything else a refusal; a turn gives back the steps done, or REFUSED. A row step
+// is repeated on our side.
+typedef uint64_t row_steps(uint64_t *d, size_t d_len, const uint64_t *s, size_t s_len, size_t q, size_t times);
 
-uint64_t bench_check(uint64_t rows, uint64_t columns, const uint64_t *a, size_t a_len);
-uint64_t bench_sum(uint64_t rows, uint64_t columns, const uint64_t *a, size_t a_len, const uint64_t *b, size_t b_len, uint64_t *out,
-                   size_t out_len);
-uint64_t bench_difference(uint64_t rows, uint64_t columns, const uint64_t *a, size_t a_len, const uint64_t *b, size_t b_len, uint64_t *out,
-                          size_t out_len);
-uint64_t bench_negation(uint64_t rows, uint64_t columns, const uint64_t *a, size_t a_len, uint64_t *out, size_t out_len);
-uint64_t bench_scaling(uint64_t rows, uint64_t columns, uint8_t d, const uint64_t *a, size_t a_len, uint64_t *out, size_t out_len);
-uint64_t bench_transpose(uint64_t rows, uint64_t columns, const uint64_t *a, size_t a_len, uint64_t *out, size_t out_len);
-uint64_t bench_pack(uint64_t rows, uint64_t columns, const uint8_t *cells, size_t cells_len, uint64_t *out, size_t out_len);
-uint64_t bench_unpack(uint64_t rows, uint64_t columns, const uint64_t *a, size_t a_len, uint8_t *out, size_t out_len);
-
-uint64_t bench_product(uint64_t m, uint64_t l, uint64_t n, uint64_t width, const uint64_t *a, size_t a_len, const uint64_t *b, size_t b_len,
-                       uint64_t *table, size_t table_len, uint64_t *product, size_t product_len);
-uint64_t bench_opening(uint64_t m, uint64_t l, uint64_t n, uint64_t width, const uint64_t *a, size_t a_len, const uint64_t *b, size_t b_len,
-                       uint64_t *table, size_t table_len, uint64_t *product, size_t product_len);
-uint64_t bench_turn(uint64_t m, uint64_t l, uint64_t n, uint64_t width, uint64_t done, const uint64_t *a, size_t a_len, const uint64_t *b,
-                    size_t b_len, uint64_t *table, size_t table_len, uint64_t *product, size_t product_len, uint32_t budget);
+row_steps bench_add, bench_subtract, bench_table_step;
+read_one bench_check;
+two_to_one bench_sum, bench_difference;
+one_to_one bench_negation, bench_transpose;
+scaled_to_one bench_scaling;
+cells_to_one bench_pack;
+one_to_cells bench_unpack;
+job_begun bench_product, bench_opening;
+job_continued bench_turn;
 
 enum { BUFFERS = 4, SIZES = 4 };
 
@@ -135,47 +126,24 @@ static void row_step(struct work *w)
     matrix(w, 1, 1, 64 * w->size);
 }
 
-static uint64_t ours_add(struct work *w, size_t times)
-{
-    return bench_add(w->at[0], w->words[0], w->at[1], w->words[1], w->size, times);
-}
+#define WORDS(i) w->at[i], w->words[i]
+#define ROW_STEP(name, call)                                     \
+    static uint64_t ours_##name(struct work *w, size_t times)    \
+    {                                                            \
+        return bench_##name(WORDS(0), WORDS(1), w->size, times); \
+    }                                                            \
+    static uint64_t c_##name(struct work *w, size_t times)       \
+    {                                                            \
+        uint64_t *d = w->at[0], *s = w->at[1];                   \
+        size_t q = w->size;                                      \
+        for (size_t i = 0; i < times; i++)                       \
+            call;                                                \
+        return 0;                                                \
+    }
 
-static uint64_t c_add(struct work *w, size_t times)
-{
-    uint64_t *d = w->at[0], *s = w->at[1];
-    size_t q = w->size;
-    for (size_t i = 0; i < times; i++)
-        add_row(d, s, q);
-    return 0;
-}
-
-static uint64_t ours_subtract(struct work *w, size_t times)
-{
-    return bench_subtract(w->at[0], w->words[0], w->at[1], w->words[1], w->size, times);
-}
-
-static uint64_t c_subtract(struct work *w, size_t times)
-{
-    uint64_t *d = w->at[0], *s = w->at[1];
-    size_t q = w->size;
-    for (size_t i = 0; i < times; i++)
-        subtract_row(d, s, q);
-    return 0;
-}
-
-static uint64_t ours_table_step(struct work *w, size_t times)
-{
-    return bench_table_step(w->at[0], w->words[0], w->at[1], w->words[1], w->size, times);
-}
-
-static uint64_t c_table_step(struct work *w, size_t times)
-{
-    uint64_t *d = w->at[0], *s = w->at[1];
-    size_t q = w->size;
-    for (size_t i = 0; i < times; i++)
-        table_step(d + 2 * q, d, s, q);
-    return 0;
-}
+ROW_STEP(add, add_row(d, s, q))
+ROW_STEP(subtract, subtract_row(d, s, q))
+ROW_STEP(table_step, table_step(d + 2 * q, d, s, q))
 
 // Requests: the matrices have as many columns as rows. Both sides take the same arguments, and the loop that repeats the call is here for both.
 static size_t matrix_words(size_t n)
@@ -183,37 +151,36 @@ static size_t matrix_words(size_t n)
     return 2 * planes(n) * n;
 }
 
-static void one_matrix(struct work *w)
+static void fill_one(struct work *w)
 {
     matrix(w, 0, w->size, w->size);
 }
 
-static void one_to_one(struct work *w)
+static void fill_one_to_one(struct work *w)
 {
     matrix(w, 0, w->size, w->size);
     anything(w, 1, matrix_words(w->size));
 }
 
-static void two_to_one(struct work *w)
+static void fill_two_to_one(struct work *w)
 {
     matrix(w, 0, w->size, w->size);
     matrix(w, 1, w->size, w->size);
     anything(w, 2, matrix_words(w->size));
 }
 
-static void cells_to_one(struct work *w)
+static void fill_cells_to_one(struct work *w)
 {
     digits(w, 0, w->size * w->size);
     anything(w, 1, matrix_words(w->size));
 }
 
-static void one_to_cells(struct work *w)
+static void fill_one_to_cells(struct work *w)
 {
     matrix(w, 0, w->size, w->size);
     anything(w, 1, (w->size * w->size + 7) / 8);
 }
 
-#define WORDS(i) w->at[i], w->words[i]
 #define CELLS(i) (uint8_t *)w->at[i], w->size * w->size
 #define SIDE(side, function, ...)                             \
     static uint64_t side(struct work *w, size_t times)        \
@@ -372,15 +339,15 @@ static const struct bench_case cases[] = {
     {"add-row", {1, 4, 16}, 1000, row_step, ours_add, c_add, "word", row_words, 0, NULL},
     {"subtract-row", {1, 4, 16}, 1000, row_step, ours_subtract, c_subtract, "word", row_words, 0, NULL},
     {"table-step", {1, 4, 16}, 1000, row_step, ours_table_step, c_table_step, "word", row_words, 0, NULL},
-    {"check", {64, 256, 1000, 1024}, 4, one_matrix, ours_check, c_check, "word", matrix_words, 1, spoil_matrix},
-    {"sum", {64, 256, 1000, 1024}, 4, two_to_one, ours_sum, c_sum, "word", matrix_words, 2, spoil_matrix},
-    {"difference", {64, 256, 1024}, 4, two_to_one, ours_difference, c_difference, "word", matrix_words, 2, spoil_matrix},
-    {"negation", {64, 256, 1024}, 4, one_to_one, ours_negation, c_negation, "word", matrix_words, 1, spoil_matrix},
-    {"scaling", {64, 256, 1024}, 4, one_to_one, ours_scaling, c_scaling, "word", matrix_words, 1, spoil_matrix},
-    {"transpose", {64, 256, 1000, 1024}, 2, one_to_one, ours_transpose, c_transpose, "cell", matrix_cells, 1, spoil_matrix},
-    {"transpose-blocks", {64, 256, 1024}, 2, one_to_one, ours_transpose, c_transpose_blocks, "cell", matrix_cells, 1, spoil_matrix},
-    {"pack", {64, 256, 1000, 1024}, 2, cells_to_one, ours_pack, c_pack, "cell", matrix_cells, 1, spoil_cells},
-    {"unpack", {64, 256, 1000, 1024}, 2, one_to_cells, ours_unpack, c_unpack, "cell", matrix_cells, 1, spoil_matrix},
+    {"check", {64, 256, 1000, 1024}, 4, fill_one, ours_check, c_check, "word", matrix_words, 1, spoil_matrix},
+    {"sum", {64, 256, 1000, 1024}, 4, fill_two_to_one, ours_sum, c_sum, "word", matrix_words, 2, spoil_matrix},
+    {"difference", {64, 256, 1024}, 4, fill_two_to_one, ours_difference, c_difference, "word", matrix_words, 2, spoil_matrix},
+    {"negation", {64, 256, 1024}, 4, fill_one_to_one, ours_negation, c_negation, "word", matrix_words, 1, spoil_matrix},
+    {"scaling", {64, 256, 1024}, 4, fill_one_to_one, ours_scaling, c_scaling, "word", matrix_words, 1, spoil_matrix},
+    {"transpose", {64, 256, 1000, 1024}, 2, fill_one_to_one, ours_transpose, c_transpose, "cell", matrix_cells, 1, spoil_matrix},
+    {"transpose-blocks", {64, 256, 1024}, 2, fill_one_to_one, ours_transpose, c_transpose_blocks, "cell", matrix_cells, 1, spoil_matrix},
+    {"pack", {64, 256, 1000, 1024}, 2, fill_cells_to_one, ours_pack, c_pack, "cell", matrix_cells, 1, spoil_cells},
+    {"unpack", {64, 256, 1000, 1024}, 2, fill_one_to_cells, ours_unpack, c_unpack, "cell", matrix_cells, 1, spoil_matrix},
     {"product-4", {64, 1024}, 2, whole_4, ours_product, c_product, "step", steps_4, 2, spoil_matrix},
     {"product-8", {256, 1024}, 2, whole_8, ours_product, c_product, "step", steps_8, 2, spoil_matrix},
     {"turn-of-0", {1024}, 2, turn_8, ours_turn, c_turn, "step", steps_8, 4, spoil_matrix},

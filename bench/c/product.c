@@ -4,7 +4,7 @@
 
 #include <string.h>
 
-#include "kernels.h"
+#include "rows.h"
 #include "tests.h"
 
 struct job {
@@ -19,7 +19,7 @@ struct left {
 };
 
 // In a whole product nothing is left out, and it pays for no test.
-static inline bool due(struct left *left)
+INLINE bool due(struct left *left)
 {
     if (left == NULL)
         return true;
@@ -48,17 +48,17 @@ static inline uint64_t window(const uint64_t *plane, size_t s, size_t w)
     return bits & (((uint64_t)1 << w) - 1);
 }
 
-static inline void table_part(const struct job *job, size_t s, size_t w, struct left *left)
+INLINE void table_part(const struct job *job, size_t s, size_t w, struct left *left)
 {
     size_t q = planes(job->n);
     uint64_t *table = job->table;
     const uint64_t *b = job->b + 2 * q * s;
     for (size_t x = 1; x < (size_t)1 << w; x++)
         if (due(left))
-            table_step(table + 2 * q * x, table + 2 * q * (x & (x - 1)), b + 2 * q * __builtin_ctzll(x), q);
+            make_row(sum, table + 2 * q * x, table + 2 * q * (x & (x - 1)), b + 2 * q * __builtin_ctzll(x), q);
 }
 
-static inline void rows_part(const struct job *job, size_t s, size_t w, struct left *left)
+INLINE void rows_part(const struct job *job, size_t s, size_t w, struct left *left)
 {
     size_t q = planes(job->n), p = planes(job->l), m = job->m;
     const uint64_t *table = job->table, *unit = job->a;
@@ -66,9 +66,9 @@ static inline void rows_part(const struct job *job, size_t s, size_t w, struct l
     for (size_t i = 0; i < m; i++, unit += 2 * p, row += 2 * q) {
         uint64_t twos = window(unit + p, s, w), ones = window(unit, s, w) ^ twos;
         if (ones != 0 && due(left))
-            add_row(row, table + 2 * q * ones, q);
+            change_row(sum, row, table + 2 * q * ones, q);
         if (twos != 0 && due(left))
-            subtract_row(row, table + 2 * q * twos, q);
+            change_row(difference, row, table + 2 * q * twos, q);
     }
 }
 

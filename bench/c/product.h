@@ -5,9 +5,11 @@
 // What a refused turn gives back: no list has as many steps.
 #define REFUSED UINT64_MAX
 
-uint64_t matrix_product(uint64_t m, uint64_t l, uint64_t n, uint64_t width, const uint64_t *a, size_t a_len, const uint64_t *b, size_t b_len,
-                        uint64_t *table, size_t table_len, uint64_t *product, size_t product_len);
-uint64_t matrix_opening(uint64_t m, uint64_t l, uint64_t n, uint64_t width, const uint64_t *a, size_t a_len, const uint64_t *b, size_t b_len,
-                        uint64_t *table, size_t table_len, uint64_t *product, size_t product_len);
-uint64_t matrix_turn(uint64_t m, uint64_t l, uint64_t n, uint64_t width, uint64_t done, const uint64_t *a, size_t a_len, const uint64_t *b,
-                     size_t b_len, uint64_t *table, size_t table_len, uint64_t *product, size_t product_len, uint32_t budget);
+typedef uint64_t job_begun(uint64_t m, uint64_t l, uint64_t n, uint64_t width, const uint64_t *a, size_t a_len, const uint64_t *b, size_t b_len,
+                           uint64_t *table, size_t table_len, uint64_t *product, size_t product_len);
+typedef uint64_t job_continued(uint64_t m, uint64_t l, uint64_t n, uint64_t width, uint64_t done, const uint64_t *a, size_t a_len,
+                               const uint64_t *b, size_t b_len, uint64_t *table, size_t table_len, uint64_t *product, size_t product_len,
+                               uint32_t budget);
+
+job_begun matrix_product, matrix_opening;
+job_continued matrix_turn;

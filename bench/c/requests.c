@@ -3,6 +3,8 @@
 //
 // `restrict`: the callers see to it that a buffer to be written shares no byte with another, as callers of ours must.
 #include "requests.h"
+
+#include "rows.h"
 #include "tests.h"
 
 // How many of the 64 cells from cell `from` on a row of n has.
@@ -11,11 +13,12 @@ static size_t real(size_t n, size_t from)
     return n - from < 64 ? n - from : 64;
 }
 
-static uint64_t judge_one(uint64_t rows, uint64_t columns, const uint64_t *a, size_t a_len, size_t out_len)
+// r by c: the matrix to be written.
+INLINE uint64_t judge_one(uint64_t rows, uint64_t columns, const uint64_t *a, size_t a_len, uint64_t r, uint64_t c, size_t out_len)
 {
     if (over(rows, columns))
         return TOO_LARGE;
-    if (unfit(rows, columns, a_len) || unfit(rows, columns, out_len))
+    if (unfit(rows, columns, a_len) || unfit(r, c, out_len))
         return LENGTH_WRONG;
     return fault(rows, columns, a);
 }
@@ -32,74 +35,50 @@ static uint64_t judge_two(uint64_t rows, uint64_t columns, const uint64_t *a, si
 
 uint64_t matrix_check(uint64_t rows, uint64_t columns, const uint64_t *a, size_t a_len)
 {
-    if (over(rows, columns))
-        return TOO_LARGE;
-    if (unfit(rows, columns, a_len))
-        return LENGTH_WRONG;
-    return fault(rows, columns, a);
+    return judge_one(rows, columns, a, a_len, rows, columns, a_len);
 }
 
-uint64_t matrix_sum(uint64_t rows, uint64_t columns, const uint64_t *a, size_t a_len, const uint64_t *b, size_t b_len,
-                    uint64_t *restrict out, size_t out_len)
+INLINE uint64_t rows_made(operation *op, uint64_t rows, uint64_t columns, const uint64_t *a, size_t a_len, const uint64_t *b, size_t b_len,
+                          uint64_t *restrict out, size_t out_len)
 {
     uint64_t no = judge_two(rows, columns, a, a_len, b, b_len, out_len);
     if (no != DONE)
         return no;
     size_t q = planes(columns);
-    for (size_t i = 0; i < rows; i++) {
-        const uint64_t *x = a + 2 * q * i, *y = b + 2 * q * i;
-        uint64_t *to = out + 2 * q * i;
-        for (size_t j = 0; j < q; j++) {
-            uint64_t xu = x[j], xs = x[q + j];
-            uint64_t yu = y[j], ys = y[q + j];
-            uint64_t s = xu ^ ys, t = xs ^ yu;
-            to[j] = (s ^ xs) | (t ^ ys);
-            to[q + j] = s & t;
-        }
-    }
+    for (size_t i = 0; i < rows; i++)
+        make_row(op, out + 2 * q * i, a + 2 * q * i, b + 2 * q * i, q);
     return DONE;
 }
 
-uint64_t matrix_difference(uint64_t rows, uint64_t columns, const uint64_t *a, size_t a_len, const uint64_t *b, size_t b_len,
-                           uint64_t *restrict out, size_t out_len)
+uint64_t matrix_sum(uint64_t rows, uint64_t columns, const uint64_t *a, size_t a_len, const uint64_t *b, size_t b_len, uint64_t *out,
+                    size_t out_len)
 {
-    uint64_t no = judge_two(rows, columns, a, a_len, b, b_len, out_len);
-    if (no != DONE)
-        return no;
-    size_t q = planes(columns);
-    for (size_t i = 0; i < rows; i++) {
-        const uint64_t *x = a + 2 * q * i, *y = b + 2 * q * i;
-        uint64_t *to = out + 2 * q * i;
-        for (size_t j = 0; j < q; j++) {
-            uint64_t xu = x[j], xs = x[q + j];
-            uint64_t yu = y[j], ys = y[q + j];
-            uint64_t t = xu ^ yu;
-            to[j] = t | (xs ^ ys);
-            to[q + j] = (t ^ ys) & (yu ^ xs);
-        }
-    }
-    return DONE;
+    return rows_made(sum, rows, columns, a, a_len, b, b_len, out, out_len);
 }
 
-uint64_t matrix_negation(uint64_t rows, uint64_t columns, const uint64_t *a, size_t a_len, uint64_t *restrict out, size_t out_len)
+uint64_t matrix_difference(uint64_t rows, uint64_t columns, const uint64_t *a, size_t a_len, const uint64_t *b, size_t b_len, uint64_t *out,
+                           size_t out_len)
 {
-    uint64_t no = judge_one(rows, columns, a, a_len, out_len);
-    if (no != DONE)
-        return no;
-    size_t q = planes(columns);
-    for (size_t i = 0; i < rows; i++) {
-        const uint64_t *x = a + 2 * q * i;
-        uint64_t *to = out + 2 * q * i;
-        for (size_t j = 0; j < q; j++) {
-            uint64_t xu = x[j], xs = x[q + j];
-            to[j] = xu;
-            to[q + j] = xu ^ xs;
-        }
-    }
-    return DONE;
+    return rows_made(difference, rows, columns, a, a_len, b, b_len, out, out_len);
 }
 
-uint64_t matrix_scaling(uint64_t rows, uint64_t columns, uint8_t d, const uint64_t *a, size_t a_len, uint64_t *restrict out, size_t out_len)
+INLINE void scale_rows(uint8_t d, uint64_t rows, uint64_t columns, const uint64_t *a, uint64_t *restrict out)
+{
+    size_t q = planes(columns);
+    struct pair by = {-(uint64_t)(d != 0), -(uint64_t)(d == 2)};
+    for (size_t i = 0; i < rows; i++)
+        scale_row(by, out + 2 * q * i, a + 2 * q * i, q);
+}
+
+uint64_t matrix_negation(uint64_t rows, uint64_t columns, const uint64_t *a, size_t a_len, uint64_t *out, size_t out_len)
+{
+    uint64_t no = judge_one(rows, columns, a, a_len, rows, columns, out_len);
+    if (no == DONE)
+        scale_rows(2, rows, columns, a, out);
+    return no;
+}
+
+uint64_t matrix_scaling(uint64_t rows, uint64_t columns, uint8_t d, const uint64_t *a, size_t a_len, uint64_t *out, size_t out_len)
 {
     if (over(rows, columns))
         return TOO_LARGE;
@@ -108,37 +87,14 @@ uint64_t matrix_scaling(uint64_t rows, uint64_t columns, uint8_t d, const uint64
     if (d > 2)
         return DIGIT_WRONG;
     uint64_t no = fault(rows, columns, a);
-    if (no != DONE)
-        return no;
-    size_t q = planes(columns);
-    uint64_t du = -(uint64_t)(d != 0), ds = -(uint64_t)(d == 2);
-    for (size_t i = 0; i < rows; i++) {
-        const uint64_t *x = a + 2 * q * i;
-        uint64_t *to = out + 2 * q * i;
-        for (size_t j = 0; j < q; j++) {
-            uint64_t u = x[j] & du, s = x[q + j] ^ ds;
-            to[j] = u;
-            to[q + j] = u & s;
-        }
-    }
-    return DONE;
-}
-
-static uint64_t judge_transpose(uint64_t rows, uint64_t columns, const uint64_t *a, size_t a_len, size_t out_len)
-{
-    if (over(rows, columns))
-        return TOO_LARGE;
-    if (unfit(rows, columns, a_len) || unfit(columns, rows, out_len))
-        return LENGTH_WRONG;
-    return fault(rows, columns, a);
+    if (no == DONE)
+        scale_rows(d, rows, columns, a, out);
+    return no;
 }
 
 // Cell by cell: each word of the transpose is gathered from 64 rows.
-uint64_t matrix_transpose(uint64_t rows, uint64_t columns, const uint64_t *a, size_t a_len, uint64_t *restrict out, size_t out_len)
+static inline void by_cells(uint64_t rows, uint64_t columns, const uint64_t *a, uint64_t *restrict out)
 {
-    uint64_t no = judge_transpose(rows, columns, a, a_len, out_len);
-    if (no != DONE)
-        return no;
     size_t q = planes(columns), p = planes(rows);
     for (size_t j = 0; j < columns; j++)
         for (size_t k = 0; k < p; k++) {
@@ -152,7 +108,14 @@ uint64_t matrix_transpose(uint64_t rows, uint64_t columns, const uint64_t *a, si
             out[2 * p * j + k] = unit;
             out[2 * p * j + p + k] = sign;
         }
-    return DONE;
+}
+
+uint64_t matrix_transpose(uint64_t rows, uint64_t columns, const uint64_t *a, size_t a_len, uint64_t *out, size_t out_len)
+{
+    uint64_t no = judge_one(rows, columns, a, a_len, columns, rows, out_len);
+    if (no == DONE)
+        by_cells(rows, columns, a, out);
+    return no;
 }
 
 // In each square of 2h by 2h cells, the square of h by h at the upper right changes places with the one at the lower left.
@@ -177,11 +140,8 @@ static void turn(uint64_t w[64])
 }
 
 // Block by block: 64 by 64 cells at a time.
-uint64_t matrix_transpose_blocks(uint64_t rows, uint64_t columns, const uint64_t *a, size_t a_len, uint64_t *restrict out, size_t out_len)
+static inline void by_blocks(uint64_t rows, uint64_t columns, const uint64_t *a, uint64_t *restrict out)
 {
-    uint64_t no = judge_transpose(rows, columns, a, a_len, out_len);
-    if (no != DONE)
-        return no;
     size_t q = planes(columns), p = planes(rows);
     for (size_t k = 0; k < p; k++)
         for (size_t j = 0; j < q; j++)
@@ -198,7 +158,14 @@ uint64_t matrix_transpose_blocks(uint64_t rows, uint64_t columns, const uint64_t
                 for (size_t t = 0; t < m; t++)
                     to[2 * p * t] = w[t];
             }
-    return DONE;
+}
+
+uint64_t matrix_transpose_blocks(uint64_t rows, uint64_t columns, const uint64_t *a, size_t a_len, uint64_t *out, size_t out_len)
+{
+    uint64_t no = judge_one(rows, columns, a, a_len, columns, rows, out_len);
+    if (no == DONE)
+        by_blocks(rows, columns, a, out);
+    return no;
 }
 
 uint64_t matrix_pack(uint64_t rows, uint64_t columns, const uint8_t *cells, size_t cells_len, uint64_t *restrict out, size_t out_len)

@@ -6,23 +6,23 @@
 enum { DONE = 0, TOO_LARGE = 1, WIDTH_WRONG = 3, LENGTH_WRONG = 4, STRAY_SIGN = 5, PADDING_SET = 6, DIGIT_WRONG = 8 };
 
 // Words a plane of a row.
-static size_t planes(size_t c)
+static inline size_t planes(size_t c)
 {
     return (c + 63) / 64;
 }
 
-static bool over(uint64_t rows, uint64_t columns)
+static inline bool over(uint64_t rows, uint64_t columns)
 {
     return rows > 1024 || columns > 1024;
 }
 
-static bool unfit(size_t r, size_t c, size_t len)
+static inline bool unfit(size_t r, size_t c, size_t len)
 {
     return len != r * 2 * planes(c);
 }
 
 // One pass for both faults. Nothing is decided in it, so that it becomes vector code: a legal matrix, the usual one, is read to its end anyway.
-static uint64_t fault(size_t r, size_t c, const uint64_t *a)
+static inline uint64_t fault(size_t r, size_t c, const uint64_t *a)
 {
     size_t q = planes(c);
     if (q == 0)

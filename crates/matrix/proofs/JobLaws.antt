@@ -9,7 +9,6 @@ use native.Mathlib.Omega.{arith}
 use lib.Dec.{T, ltb, eqb}
 use native.Mathlib.Decide.{decLt}
 use lib.ListN.{length, getD, List·getD-eq-default}
-use lib.Seq.{take-all}
 use borrow.Author.Tests.{ltb-false, le-ltb, eqb-true, eqb-false, not-false}
 use Rattle.cells.proofs.AnyLaws.{or-left, or-right}
 use Rattle.cells.specs.Digit.{Matrix}
@@ -23,7 +22,7 @@ use Rattle.requests.proofs.AnswerLaws.{positive, None, first-none, append-given
 use Rattle.rows.specs.Row.{Written}
 use Rattle.steps.specs.Matrix.{sum}
 use Rattle.steps.specs.Step.{Step, State, run, opening}
-use Rattle.steps.specs.StepList.{each, blocks, blockWidth, blockAt, steps}
+use Rattle.steps.specs.StepList.{blocks, blockWidth, steps}
 use Rattle.steps.specs.Count.{quote, total}
 use Rattle.steps.proofs.Fits.{AllFit}
 use Rattle.steps.proofs.Counts.{quote-le, total-small}
@@ -223,11 +222,6 @@ module _ (k m l n : ℕ) (B : Matrix) (ps : List Step) (t p t′ p′ : List ℕ
 
   pub opened-product : p′ ≡ encode m n (run B ps opening .product)
   opened-product = R .product ∙ encode-within m n _ _ (run-same k m l n B B (λ i j h q. refl) ps (found n t p) opening fit same-opening .product)
-
--- no list is longer than the largest budget
-pub all-due : (m l k : ℕ) (A : Matrix) → m ≤ 1024 → l ≤ 1024 → 0 < k → k ≤ 8 → due 0 4294967295 (each 0 (blocks l k) (blockAt m l k A)) ≡ steps m l k A
-unfolding due steps total
-all-due m l k A hm hl pos hk = take-all 4294967295 (steps m l k A) (omega (arith, total-small m l k A hm hl pos hk))
 
 -- ---- the quote, block by block
 

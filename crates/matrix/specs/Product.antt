@@ -1,4 +1,4 @@
--- What `product` answers and leaves: opening, and one turn to the end. Assumes nothing.
+-- What `product` answers and leaves: an opening and then every step of the list. Assumes nothing.
 use mathlib.Core.List.{List}
 use Prim.Native.Nat.{ℕ, _^_}
 use lib.ListN.{length}

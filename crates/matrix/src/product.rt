@@ -1,4 +1,4 @@
-// The whole product as one request: an opening, and one turn to the end.
+// The whole product as one request: an opening, and then every step of the list.
 ghost use mathlib.Core.Path.{_≡_};
 ghost use Prim.Native.Nat.{ℕ, _^_, _≤_, _<_};
 ghost use lib.ListN.{length};
@@ -14,11 +14,10 @@ use super::opening::zero;
 use requests::Answer;
 use requests::Size;
 use requests::number;
-use walk::Left;
 use walk::Shape;
-use walk::blocks::blocks_part;
+use walk::whole::blocks_all;
 
-// Every step of the list, from the opening. No list is longer than this budget.
+// Every step of the list, from the opening.
 fn multiplied(shape: Shape, a: &[u64], b: &[u64], table: &mut [u64], product: &mut [u64])
     requires { ⌜ Within shape × Legal (shape .m) (shape .l) (now a) × Legal (shape .l) (shape .n) (now b) × (length (now table) ≡ words (2 ^ shape .width) (shape .n)) × (length (now product) ≡ words (shape .m) (shape .n)) ⌝ }
     ensures { λ _. ⌜ (now (table .exit) ≡ encode (2 ^ shape .width) (shape .n) (run (cell (shape .n) (now (b .entry))) (steps (shape .m) (shape .l) (shape .width) (cell (shape .l) (now (a .entry)))) opening .table))
@@ -26,11 +25,7 @@ fn multiplied(shape: Shape, a: &[u64], b: &[u64], table: &mut [u64], product: &m
 {
     zero(table);
     zero(product);
-    let all = Left {
-        skip: 0,
-        budget: 4294967295,
-    };
-    blocks_part(table, product, a, b, shape, 0, all);
+    blocks_all(table, product, a, b, shape);
 }
 
 pub fn product(

@@ -55,8 +55,9 @@ pub fn add_row(t: &mut [u64], b: &[u64], q: usize, x: usize, y: usize, z: usize)
         add_one(t, b, q, x, y, z);
         return;
     }
+    let end = q - q % 4;
     let mut j = 0;
-    while j + 4 <= q {
+    while j < end {
         add_two(t, b, q, x + j, y + j, z + j);
         let i = j + 2;
         add_two(t, b, q, x + i, y + i, z + i);

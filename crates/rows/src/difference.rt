@@ -62,8 +62,9 @@ pub fn difference(out: &mut [u64], a: &[u64], b: &[u64], q: usize, x: usize, y: 
         difference_one(out, a, b, q, x, y, z);
         return;
     }
+    let end = q - q % 4;
     let mut j = 0;
-    while j + 4 <= q {
+    while j < end {
         difference_two(out, a, b, q, x + j, y + j, z + j);
         let i = j + 2;
         difference_two(out, a, b, q, x + i, y + i, z + i);

@@ -62,8 +62,9 @@ pub fn negation(out: &mut [u64], a: &[u64], q: usize, x: usize, y: usize)
     requires { ⌜ (x + (q + q) ≤ length (now out)) × Readable q q y (now a) ⌝ }
     ensures { λ _. ⌜ Made (of1 neg3 q (now (a .entry)) y) x q q (now (out .entry)) (now (out .exit)) ⌝ }
 {
+    let end = q - q % 4;
     let mut j = 0;
-    while j + 4 <= q {
+    while j < end {
         negation_two(out, a, q, x + j, y + j);
         let i = j + 2;
         negation_two(out, a, q, x + i, y + i);

@@ -53,8 +53,9 @@ pub fn sum(out: &mut [u64], a: &[u64], b: &[u64], q: usize, x: usize, y: usize, 
         sum_one(out, a, b, q, x, y, z);
         return;
     }
+    let end = q - q % 4;
     let mut j = 0;
-    while j + 4 <= q {
+    while j < end {
         sum_two(out, a, b, q, x + j, y + j, z + j);
         let i = j + 2;
         sum_two(out, a, b, q, x + i, y + i, z + i);

@@ -59,6 +59,14 @@ unfolding unless0
 unless-some step zero h = absurd (omega arith)
 unless-some step (suc x) h = refl
 
+module _ (k m n : ℕ) (B : Matrix) (step : ℕ → Step) (x : ℕ) (t p p′ : List ℕ) where
+  pub step-none : x ≡ 0 → p ≡ p′ → Legal (2 ^ k) n t → Words t → Legal m n p → Words p → Ran k m n B (unless0 step x) t p t p′
+  unfolding unless0
+  step-none z same L fits K fits′ = rw (z, ← same) (ran-none k m n B t p L fits K fits′)
+
+  pub step-made : 0 < x → Ran k m n B (step x ∷ []) t p t p′ → Ran k m n B (unless0 step x) t p t p′
+  step-made h R = rw (unless-some step x h) R
+
 module _ (k m n : ℕ) (step : ℕ → Step) (x : ℕ) (a b : Left) (t p p′ : List ℕ) where
   abbrev Carried : Type 0
   Carried = Spent a (length (unless0 step x)) b × ((B : Matrix) → Ran k m n B (due (a .skip) (a .budget) (unless0 step x)) t p t p′)
@@ -166,6 +174,14 @@ module _ (k m n l : ℕ) (A B : Matrix) (s w : ℕ) (a mid b : Left) (top skippe
       joined k m n l B (tableSteps s w) rest a mid t₀ p t₁ p t₁ p₁ (fit-each m l k (rowSteps A s w) 0 m (λ i _ h. fit-wider m l w k narrow (rowSteps A s w i) (row-fits m l A s w i h))) table-left
       (subst (λ (ps : List Step). Ran k m n B ps t₀ p t₁ p)
       (sym (from-to s w (a .skip) (a .budget) f t (ef ∙ ap (λ (x : ℕ). x + 1) top-skipped) (el ∙ ap (λ (x : ℕ). f + x) top-made))) R) T
+
+-- the same with nothing left out
+pub block-whole : (k m n l : ℕ) (A B : Matrix) (s w top : ℕ) → w ≤ k → top ≡ 2 ^ w → (t p t₁ p₁ : List ℕ) → Ran k m n B (each 1 top (λ x. tableStep s x ∷ [])) t p t₁ p → Ran k m n B (each 0 m (rowSteps A s w)) t₁ p t₁ p₁
+    → Ran k m n B (blockSteps m A s w) t p t₁ p₁
+unfolding blockSteps tableSteps
+block-whole k m n l A B s w top narrow e t p t₁ p₁ R T =
+    ran-more k m n B l (each 1 (2 ^ w) (λ x. tableStep s x ∷ [])) (each 0 m (rowSteps A s w)) t p t₁ p t₁ p₁ (fit-each m l k (rowSteps A s w) 0 m (λ i _ h. fit-wider m l w k narrow (rowSteps A s w i) (row-fits m l A s w i h)))
+    (subst (λ (z : ℕ). Ran k m n B (each 1 z (λ x. tableStep s x ∷ [])) t p t₁ p) e R) T
 
 -- the blocks of the list fit
 pub blocks-fit : (m l k c : ℕ) (A : Matrix) → 0 < k → c < blocks l k → AllFit m l k (blockAt m l k A c)

@@ -5,6 +5,7 @@ mod piece;
 pub mod place;
 mod rows_part;
 mod table_part;
+pub mod whole;
 
 // The sizes of a product of an m by l and an l by n matrix, and the width of its blocks.
 pub struct Shape {

@@ -1,5 +1,5 @@
-use mathlib.Core.Path.{refl, _∙_}
-use Prim.Native.Nat.{_+_, _-_, _≤_}
+use mathlib.Core.Path.{_≡_, refl, _∙_}
+use Prim.Native.Nat.{_+_, _-_, _%_, _≤_}
 use Rattle.cells.specs.Digit.{neg3}
 use Rattle.rows.specs.Row.{of1, Made}
 use Rattle.rows.proofs.RowLaws.{made-none, readable-part, more1}
@@ -8,16 +8,16 @@ use Rattle.rows.proofs.negation.negation.Statement.{statement}
 use Rattle.rows.proofs.negation.negation.Tie as tie
 
 abbrev Inv-loop : tie.InvT-loop
-Inv-loop out₀ a q x y j₀ out j = (j ≤ q) × Made (of1 neg3 q a y) x q j out₀ out
+Inv-loop out₀ a q x y end j₀ out j = (j ≤ q) × Made (of1 neg3 q a y) x q j out₀ out × (j % 4 ≡ 0)
 
 abbrev μ-loop : tie.MeasureT-loop
-μ-loop out₀ a q x y j₀ out j = q - j
+μ-loop out₀ a q x y end j₀ out j = q - j
+
+sub-end : tie.Need-sub-end Inv-loop μ-loop
+sub-end c = omega arith
 
 loop-holds : tie.Need-loop-holds Inv-loop μ-loop
-loop-holds c = (omega arith, made-none _ _ _ _)
-
-add-loop : tie.Need-add-loop Inv-loop μ-loop
-add-loop c = omega arith
+loop-holds c = (omega arith, made-none _ _ _ _, omega arith)
 
 add-negation-two : tie.Need-add-negation-two Inv-loop μ-loop
 add-negation-two c = omega arith
@@ -47,7 +47,7 @@ loop-less : tie.Need-loop-less Inv-loop μ-loop
 loop-less c = omega arith
 
 loop-again : tie.Need-loop-again Inv-loop μ-loop
-loop-again c = (omega arith, more1 neg3 (c .before .before .before .before .before .before .before .before .before .before .before .before .args .q) (c .before .before .before .before .before .before .before .before .before .before .before .before .args .a .now) (c .before .before .before .before .before .before .before .before .before .before .before .before .args .x) (c .before .before .before .before .before .before .before .before .before .before .before .before .args .y) (c .before .before .before .before .before .before .before .before .before .loop .j + 2) 2 (c .before .before .before .before .before .before .before .before .before .loop .j + 4) _ _ _ (omega arith) (omega arith) (more1 neg3 (c .before .before .before .before .before .before .before .before .before .before .before .before .args .q) (c .before .before .before .before .before .before .before .before .before .before .before .before .args .a .now) (c .before .before .before .before .before .before .before .before .before .before .before .before .args .x) (c .before .before .before .before .before .before .before .before .before .before .before .before .args .y) (c .before .before .before .before .before .before .before .before .before .loop .j) 2 (c .before .before .before .before .before .before .before .before .before .loop .j + 2) _ _ _ (omega arith) (omega arith) (c .before .before .before .before .before .before .before .before .before .loop .inv .1) (c .before .before .before .before .before .before .negation-two .ensures)) (c .before .before .negation-two2 .ensures))
+loop-again c = (omega arith, more1 neg3 (c .before .before .before .before .before .before .before .before .before .before .before .before .args .q) (c .before .before .before .before .before .before .before .before .before .before .before .before .args .a .now) (c .before .before .before .before .before .before .before .before .before .before .before .before .args .x) (c .before .before .before .before .before .before .before .before .before .before .before .before .args .y) (c .before .before .before .before .before .before .before .before .before .loop .j + 2) 2 (c .before .before .before .before .before .before .before .before .before .loop .j + 4) _ _ _ (omega arith) (omega arith) (more1 neg3 (c .before .before .before .before .before .before .before .before .before .before .before .before .args .q) (c .before .before .before .before .before .before .before .before .before .before .before .before .args .a .now) (c .before .before .before .before .before .before .before .before .before .before .before .before .args .x) (c .before .before .before .before .before .before .before .before .before .before .before .before .args .y) (c .before .before .before .before .before .before .before .before .before .loop .j) 2 (c .before .before .before .before .before .before .before .before .before .loop .j + 2) _ _ _ (omega arith) (omega arith) (c .before .before .before .before .before .before .before .before .before .loop .inv .1) (c .before .before .before .before .before .before .negation-two .ensures)) (c .before .before .negation-two2 .ensures), omega arith)
 
 sub-negation-rest : tie.Need-sub-negation-rest Inv-loop μ-loop
 sub-negation-rest c = omega arith
@@ -73,8 +73,8 @@ negation-spec =
     (tie.spec
     Inv-loop
     μ-loop
+    sub-end
     loop-holds
-    add-loop
     add-negation-two
     add-negation-two-2
     negation-two-requires

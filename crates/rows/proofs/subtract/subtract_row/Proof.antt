@@ -1,5 +1,5 @@
 use mathlib.Core.Path.{_≡_, sym, subst, _∙_}
-use Prim.Native.Nat.{ℕ, _+_, _-_, _≤_}
+use Prim.Native.Nat.{ℕ, _+_, _-_, _%_, _≤_}
 use Rattle.cells.specs.Digit.{sub3}
 use Rattle.rows.specs.Row.{of2, Made, InPlace}
 use Rattle.rows.proofs.RowLaws.{made-none, made-count, later, next, last}
@@ -8,10 +8,10 @@ use Rattle.rows.proofs.subtract.subtract_row.Statement.{statement}
 use Rattle.rows.proofs.subtract.subtract_row.Tie as tie
 
 abbrev Inv-loop : tie.InvT-loop
-Inv-loop t₀ b q x y z j₀ t j = (j ≤ q) × Made (of2 sub3 q t₀ y b z) x q j t₀ t
+Inv-loop t₀ b q x y z end j₀ t j = (j ≤ q) × Made (of2 sub3 q t₀ y b z) x q j t₀ t × (j % 4 ≡ 0)
 
 abbrev μ-loop : tie.MeasureT-loop
-μ-loop t₀ b q x y z j₀ t j = q - j
+μ-loop t₀ b q x y z end j₀ t j = q - j
 
 subtract-one-requires : tie.Need-subtract-one-requires Inv-loop μ-loop
 subtract-one-requires c κs = subst (λ (n : ℕ). InPlace (c .before .before .before .before .args .q) n (c .before .before .before .before .args .x) (c .before .before .before .before .args .y) (c .before .before .before .before .args .z) (c .before .before .before .before .args .t .now) (c .before .before .before .before .args .b .now)) (c .before .if1 .taken) (c .before .before .before .before .pre)
@@ -22,11 +22,11 @@ same-length c = c .before .before .subtract-one .ensures .long
 returns : tie.Need-returns Inv-loop μ-loop
 returns c = made-count _ (c .before .before .before .before .before .before .before .args .x) (c .before .before .before .before .before .before .before .args .q) 1 (c .before .before .before .before .before .before .before .args .q) _ _ (sym (c .before .before .before .before .if1 .taken)) (c .before .before .subtract-one .ensures)
 
-loop-holds : tie.Need-loop-holds Inv-loop μ-loop
-loop-holds c = (omega arith, made-none _ _ _ _)
+sub-end : tie.Need-sub-end Inv-loop μ-loop
+sub-end c = omega arith
 
-add-loop : tie.Need-add-loop Inv-loop μ-loop
-add-loop c = omega arith
+loop-holds : tie.Need-loop-holds Inv-loop μ-loop
+loop-holds c = (omega arith, made-none _ _ _ _, omega arith)
 
 add-subtract-two : tie.Need-add-subtract-two Inv-loop μ-loop
 add-subtract-two c = omega (arith, c .before .before .before .before .before .before .pre .first .room, c .before .before .before .before .before .before .pre .second .room)
@@ -64,7 +64,7 @@ loop-less c = omega arith
 loop-again : tie.Need-loop-again Inv-loop μ-loop
 loop-again c =
     let e : c .before .before .before .before .before .before .before .before .before .loop .j + 4 ≡ c .before .before .before .before .before .before .before .before .before .loop .j + 2 + 2 = omega arith in
-    (omega arith, rw e (next sub3 (c .before .before .before .before .before .before .before .before .before .before .before .before .before .args .q) (c .before .before .before .before .before .before .before .before .before .before .before .before .before .args .q) (c .before .before .before .before .before .before .before .before .before .before .before .before .before .args .x) (c .before .before .before .before .before .before .before .before .before .before .before .before .before .args .y) (c .before .before .before .before .before .before .before .before .before .before .before .before .before .args .z) (c .before .before .before .before .before .before .before .before .before .before .before .before .before .args .t .now) (c .before .before .before .before .before .before .before .before .before .before .before .before .before .args .b .now) (c .before .before .before .before .before .before .before .before .before .loop .j + 2) 2 _ _ (c .before .before .before .before .before .before .before .before .before .before .before .before .before .pre) (omega arith) (next sub3 (c .before .before .before .before .before .before .before .before .before .before .before .before .before .args .q) (c .before .before .before .before .before .before .before .before .before .before .before .before .before .args .q) (c .before .before .before .before .before .before .before .before .before .before .before .before .before .args .x) (c .before .before .before .before .before .before .before .before .before .before .before .before .before .args .y) (c .before .before .before .before .before .before .before .before .before .before .before .before .before .args .z) (c .before .before .before .before .before .before .before .before .before .before .before .before .before .args .t .now) (c .before .before .before .before .before .before .before .before .before .before .before .before .before .args .b .now) (c .before .before .before .before .before .before .before .before .before .loop .j) 2 _ _ (c .before .before .before .before .before .before .before .before .before .before .before .before .before .pre) (omega arith) (c .before .before .before .before .before .before .before .before .before .loop .inv .1) (c .before .before .before .before .before .before .subtract-two .ensures)) (c .before .before .subtract-two2 .ensures)))
+    (omega arith, rw e (next sub3 (c .before .before .before .before .before .before .before .before .before .before .before .before .before .args .q) (c .before .before .before .before .before .before .before .before .before .before .before .before .before .args .q) (c .before .before .before .before .before .before .before .before .before .before .before .before .before .args .x) (c .before .before .before .before .before .before .before .before .before .before .before .before .before .args .y) (c .before .before .before .before .before .before .before .before .before .before .before .before .before .args .z) (c .before .before .before .before .before .before .before .before .before .before .before .before .before .args .t .now) (c .before .before .before .before .before .before .before .before .before .before .before .before .before .args .b .now) (c .before .before .before .before .before .before .before .before .before .loop .j + 2) 2 _ _ (c .before .before .before .before .before .before .before .before .before .before .before .before .before .pre) (omega arith) (next sub3 (c .before .before .before .before .before .before .before .before .before .before .before .before .before .args .q) (c .before .before .before .before .before .before .before .before .before .before .before .before .before .args .q) (c .before .before .before .before .before .before .before .before .before .before .before .before .before .args .x) (c .before .before .before .before .before .before .before .before .before .before .before .before .before .args .y) (c .before .before .before .before .before .before .before .before .before .before .before .before .before .args .z) (c .before .before .before .before .before .before .before .before .before .before .before .before .before .args .t .now) (c .before .before .before .before .before .before .before .before .before .before .before .before .before .args .b .now) (c .before .before .before .before .before .before .before .before .before .loop .j) 2 _ _ (c .before .before .before .before .before .before .before .before .before .before .before .before .before .pre) (omega arith) (c .before .before .before .before .before .before .before .before .before .loop .inv .1) (c .before .before .before .before .before .before .subtract-two .ensures)) (c .before .before .subtract-two2 .ensures)), omega arith)
 
 same-length-2 : tie.Need-same-length-2 Inv-loop μ-loop
 same-length-2 c = c .before .before .loop .inv .1 .long
@@ -102,8 +102,8 @@ subtract-row-spec =
     subtract-one-requires
     same-length
     returns
+    sub-end
     loop-holds
-    add-loop
     add-subtract-two
     add-subtract-two-2
     add-subtract-two-3

@@ -1,5 +1,5 @@
-use mathlib.Core.Path.{refl, sym, _∙_}
-use Prim.Native.Nat.{_+_, _-_, _≤_}
+use mathlib.Core.Path.{_≡_, refl, sym, _∙_}
+use Prim.Native.Nat.{_+_, _-_, _%_, _≤_}
 use Rattle.cells.specs.Digit.{add3}
 use Rattle.rows.specs.Row.{of2, Made}
 use Rattle.rows.proofs.RowLaws.{made-none, made-count, readable-part, more2}
@@ -8,10 +8,10 @@ use Rattle.rows.proofs.sum.sum.Statement.{statement}
 use Rattle.rows.proofs.sum.sum.Tie as tie
 
 abbrev Inv-loop : tie.InvT-loop
-Inv-loop out₀ a b q x y z j₀ out j = (j ≤ q) × Made (of2 add3 q a y b z) x q j out₀ out
+Inv-loop out₀ a b q x y z end j₀ out j = (j ≤ q) × Made (of2 add3 q a y b z) x q j out₀ out × (j % 4 ≡ 0)
 
 abbrev μ-loop : tie.MeasureT-loop
-μ-loop out₀ a b q x y z j₀ out j = q - j
+μ-loop out₀ a b q x y z end j₀ out j = q - j
 
 sum-one-requires : tie.Need-sum-one-requires Inv-loop μ-loop
 sum-one-requires c κs = (record { fits = omega arith; room = omega arith }, readable-part (c .before .before .before .before .before .args .q) (c .before .before .before .before .before .args .q) 0 1 (c .before .before .before .before .before .args .y) _ _ (omega arith) (omega arith) (c .before .before .before .before .before .pre .1), readable-part (c .before .before .before .before .before .args .q) (c .before .before .before .before .before .args .q) 0 1 (c .before .before .before .before .before .args .z) _ _ (omega arith) (omega arith) (c .before .before .before .before .before .pre .2))
@@ -22,11 +22,11 @@ same-length c = c .before .before .sum-one .ensures .long
 returns : tie.Need-returns Inv-loop μ-loop
 returns c = made-count _ (c .before .before .before .before .before .before .before .before .args .x) (c .before .before .before .before .before .before .before .before .args .q) 1 (c .before .before .before .before .before .before .before .before .args .q) _ _ (sym (c .before .before .before .before .if1 .taken)) (c .before .before .sum-one .ensures)
 
-loop-holds : tie.Need-loop-holds Inv-loop μ-loop
-loop-holds c = (omega arith, made-none _ _ _ _)
+sub-end : tie.Need-sub-end Inv-loop μ-loop
+sub-end c = omega arith
 
-add-loop : tie.Need-add-loop Inv-loop μ-loop
-add-loop c = omega arith
+loop-holds : tie.Need-loop-holds Inv-loop μ-loop
+loop-holds c = (omega arith, made-none _ _ _ _, omega arith)
 
 add-sum-two : tie.Need-add-sum-two Inv-loop μ-loop
 add-sum-two c = omega arith
@@ -62,7 +62,7 @@ loop-less : tie.Need-loop-less Inv-loop μ-loop
 loop-less c = omega arith
 
 loop-again : tie.Need-loop-again Inv-loop μ-loop
-loop-again c = (omega arith, more2 add3 (c .before .before .before .before .before .before .before .before .before .before .before .before .before .before .args .q) (c .before .before .before .before .before .before .before .before .before .before .before .before .before .before .args .a .now) (c .before .before .before .before .before .before .before .before .before .before .before .before .before .before .args .b .now) (c .before .before .before .before .before .before .before .before .before .before .before .before .before .before .args .x) (c .before .before .before .before .before .before .before .before .before .before .before .before .before .before .args .y) (c .before .before .before .before .before .before .before .before .before .before .before .before .before .before .args .z) (c .before .before .before .before .before .before .before .before .before .loop .j + 2) 2 (c .before .before .before .before .before .before .before .before .before .loop .j + 4) _ _ _ (omega arith) (omega arith) (more2 add3 (c .before .before .before .before .before .before .before .before .before .before .before .before .before .before .args .q) (c .before .before .before .before .before .before .before .before .before .before .before .before .before .before .args .a .now) (c .before .before .before .before .before .before .before .before .before .before .before .before .before .before .args .b .now) (c .before .before .before .before .before .before .before .before .before .before .before .before .before .before .args .x) (c .before .before .before .before .before .before .before .before .before .before .before .before .before .before .args .y) (c .before .before .before .before .before .before .before .before .before .before .before .before .before .before .args .z) (c .before .before .before .before .before .before .before .before .before .loop .j) 2 (c .before .before .before .before .before .before .before .before .before .loop .j + 2) _ _ _ (omega arith) (omega arith) (c .before .before .before .before .before .before .before .before .before .loop .inv .1) (c .before .before .before .before .before .before .sum-two .ensures)) (c .before .before .sum-two2 .ensures))
+loop-again c = (omega arith, more2 add3 (c .before .before .before .before .before .before .before .before .before .before .before .before .before .before .args .q) (c .before .before .before .before .before .before .before .before .before .before .before .before .before .before .args .a .now) (c .before .before .before .before .before .before .before .before .before .before .before .before .before .before .args .b .now) (c .before .before .before .before .before .before .before .before .before .before .before .before .before .before .args .x) (c .before .before .before .before .before .before .before .before .before .before .before .before .before .before .args .y) (c .before .before .before .before .before .before .before .before .before .before .before .before .before .before .args .z) (c .before .before .before .before .before .before .before .before .before .loop .j + 2) 2 (c .before .before .before .before .before .before .before .before .before .loop .j + 4) _ _ _ (omega arith) (omega arith) (more2 add3 (c .before .before .before .before .before .before .before .before .before .before .before .before .before .before .args .q) (c .before .before .before .before .before .before .before .before .before .before .before .before .before .before .args .a .now) (c .before .before .before .before .before .before .before .before .before .before .before .before .before .before .args .b .now) (c .before .before .before .before .before .before .before .before .before .before .before .before .before .before .args .x) (c .before .before .before .before .before .before .before .before .before .before .before .before .before .before .args .y) (c .before .before .before .before .before .before .before .before .before .before .before .before .before .before .args .z) (c .before .before .before .before .before .before .before .before .before .loop .j) 2 (c .before .before .before .before .before .before .before .before .before .loop .j + 2) _ _ _ (omega arith) (omega arith) (c .before .before .before .before .before .before .before .before .before .loop .inv .1) (c .before .before .before .before .before .before .sum-two .ensures)) (c .before .before .sum-two2 .ensures), omega arith)
 
 sub-sum-rest : tie.Need-sub-sum-rest Inv-loop μ-loop
 sub-sum-rest c = omega arith
@@ -94,8 +94,8 @@ sum-spec =
     sum-one-requires
     same-length
     returns
+    sub-end
     loop-holds
-    add-loop
     add-sum-two
     add-sum-two-2
     add-sum-two-3
