@@ -6,3 +6,6 @@ pub mod FramesLaws
 pub mod FactorLaws
 pub mod FormLaws
 pub mod MultiplyLaws
+pub mod Outcomes
+pub mod Limits
+pub mod Sample
