@@ -1,1 +1,4 @@
 pub mod ByteLaws
+pub mod LimitLaws
+pub mod CarryLaws
+pub mod JobCarryLaws

@@ -40,6 +40,15 @@ pub fn words_in(bytes: &[u8], words: &mut [u64])
     }
 }
 
+// All words of two buffers.
+pub fn words_in_two(a: &[u8], b: &[u8], u: &mut [u64], v: &mut [u64])
+    requires { ⌜ (length (now a) ≡ 8 * length (now u)) × (length (now b) ≡ 8 * length (now v)) ⌝ }
+    ensures { λ _. ⌜ (now (u .exit) ≡ wordsIn (now (a .entry))) × (now (v .exit) ≡ wordsIn (now (b .entry))) ⌝ }
+{
+    words_in(a, u);
+    words_in(b, v);
+}
+
 fn put_two(bytes: &mut [u8], x: usize, w: u64)
     requires { ⌜ x + 2 ≤ length (now bytes) ⌝ }
     ensures { λ _. ⌜ Written (byteOf w) x 2 (now (bytes .entry)) (now (bytes .exit)) ⌝ }
