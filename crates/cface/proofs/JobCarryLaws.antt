@@ -2,7 +2,7 @@
 use mathlib.Core.Path.{_≡_, refl, sym, ap, _∙_}
 use mathlib.Core.Bool.{Bool, false, not, _||_}
 use mathlib.Core.List.{List, [], _∷_, _++_}
-use Prim.Native.Nat.{ℕ, _+_, _*_, _≤_}
+use Prim.Native.Nat.{ℕ, _+_, _*_, _≤_, _/_}
 use native.Mathlib.Omega.{arith}
 use lib.Dec.{ltb, eqb}
 use lib.ListN.{length}
@@ -28,7 +28,7 @@ use Rattle.cface.specs.Product.{productSizes, productFaceTests, productF
 use Rattle.cface.specs.Record.{unfitRecord, jobIn, recordOf}
 use Rattle.cface.specs.Open.{openSizes, openFaceTests, openFace}
 use Rattle.cface.specs.Turn.{turnSizes, wordTests, turned, turnFaceTests, turnFace}
-use Rattle.cface.proofs.LimitLaws.{Room, room, above-rows, above-columns, fits-words, fits-in, fits-a, fits-b, fits-out, fit-a, fit-b, fit-table, fit-product}
+use Rattle.cface.proofs.LimitLaws.{Room, room, fit-bytes, above-rows, above-columns, fits-words, fits-in, fits-a, fits-b, fits-out, fit-a, fit-b, fit-table, fit-product}
 use Rattle.cface.proofs.CarryLaws.{past-none, carried}
 
 exact : (s : Size) (n : ℕ) → n ≡ words (s .rows) (s .columns) → unfit s n ≡ false
@@ -136,11 +136,39 @@ module _ (x y : Size) (width k : ℕ) (a b : List ℕ) (t p : ℕ) (z : first (o
   pub open-room-product : Room 128 p
   open-room-product = room (productSize x y) 64 p (above-rows x open-a) (above-columns y open-b) (fit-product x y (meant width) (length a) (length b) t p lengths)
 
-  open-same : (i j : ℕ) → t ≡ 8 * i → p ≡ 8 * j → first (openingTests x y width (wordsIn a) (wordsIn b) i j) ≡ first (openFaceTests x y width k a b t p)
+  pub open-same : (i j : ℕ) → t ≡ 8 * i → p ≡ 8 * j → first (openingTests x y width (wordsIn a) (wordsIn b) i j) ≡ first (openFaceTests x y width k a b t p)
   unfolding openFaceTests openSizes
   open-same i j ei ej =
       opening-left x y width a b i j (open-none .1 .0) (open-none .1 .1 .1 .0) (open-none .1 .1 .1 .1 .0) (fit-a x y (meant width) (length a) (length b) t p lengths) (fit-b x y (meant width) (length a) (length b) t p lengths) (fits-words (tableSize y (meant width)) t i (fit-table x y (meant width) (length a) (length b) t p lengths) ei) (fits-words (productSize x y) p j (fit-product x y (meant width) (length a) (length b) t p lengths) ej)
       ∙ sym (past-none (openSizes x y width k (length a) (length b) t p) (faults x (wordsIn a) ++ (faults y (wordsIn b) ++ countless (totalOf x (meant width) (wordsIn a)))) open-none)
+
+-- what is so where no size, width or length of an opening is wrong
+pub record Fits (x y : Size) (width k : ℕ) (a b : List ℕ) (t p : ℕ) : Type 0 where
+  pub m : x .rows ≤ 64
+  pub l : x .columns ≤ 64
+  pub n : y .columns ≤ 64
+  pub narrow : width ≤ 8
+  pub bytes-a : length a ≡ 8 * words (x .rows) (x .columns)
+  pub bytes-b : length b ≡ 8 * words (x .columns) (y .columns)
+  pub table : t ≡ 8 * (t / 8)
+  pub product : p ≡ 8 * (p / 8)
+
+pub open-fits : (x y : Size) (width k : ℕ) (a b : List ℕ) (t p : ℕ) → first (openSizes x y width k (length a) (length b) t p) ≡ 0 → Fits x y width k a b t p
+unfolding openSizes
+open-fits x y width k a b t p z =
+    let h = open-none x y width k a b t p z in
+    let same : x .columns ≡ y .rows = eqb-true _ _ (not-false (eqb (x .columns) (y .rows)) (h .1 .1 .1 .0)) in
+    let size = lengths x y width k a b t p z in
+    record {
+      m = above-rows x (open-a x y width k a b t p z);
+      l = above-columns x (open-a x y width k a b t p z);
+      n = above-columns y (open-b x y width k a b t p z);
+      narrow = ltb-false 8 width (h .1 .1 .1 .1 .0);
+      bytes-a = fit-bytes x (length a) (fit-a x y (meant width) (length a) (length b) t p size);
+      bytes-b = rw same (fit-bytes y (length b) (fit-b x y (meant width) (length a) (length b) t p size));
+      table = open-room-table x y width k a b t p z .whole;
+      product = open-room-product x y width k a b t p z .whole;
+    }
 
 pub open-carried : (x y : Size) (width : ℕ) (job a b table product u v t p t′ p′ : List ℕ) (new : Job) (f n : ℕ)
     → first (openSizes x y width (length job) (length a) (length b) (length table) (length product)) ≡ 0 → length table ≡ 8 * length t → length product ≡ 8 * length p → u ≡ wordsIn a → v ≡ wordsIn b → f ≡ n
