@@ -42,7 +42,7 @@ byte-rest w = omega arith
 
 -- ---- the number that bytes say
 
-pub four-bytes : (bs : List ℕ) (x : ℕ) → valueOf bs x 4 ≡ (getD bs x 0 + 256 * getD bs (x + 1) 0) + 65536 * (getD bs (x + 2) 0 + 256 * getD bs (x + 3) 0)
+pub four-bytes : (bs : List ℕ) (x : ℕ) → valueOf bs x 4 ≡ getD bs x 0 + 256 * getD bs (x + 1) 0 + 65536 * getD bs (x + 2) 0 + 16777216 * getD bs (x + 3) 0
 unfolding valueOf
 four-bytes bs x =
     let a : x + 1 ≡ suc x = omega arith in

@@ -15,9 +15,11 @@ fn four(bytes: &[u8], x: usize) -> u64
     requires { ⌜ x + 4 ≤ length (now bytes) ⌝ }
     ensures { λ r. ⌜ (r ≡ valueOf (now (bytes .entry)) x 4) × (r < 4294967296) ⌝ }
 {
-    let low = wide(bytes[x]) + 256 * wide(bytes[x + 1]);
-    let high = wide(bytes[x + 2]) + 256 * wide(bytes[x + 3]);
-    low + 65536 * high
+    let a = wide(bytes[x]);
+    let b = wide(bytes[x + 1]);
+    let c = wide(bytes[x + 2]);
+    let d = wide(bytes[x + 3]);
+    a + 256 * b + 65536 * c + 16777216 * d
 }
 
 // The word in the eight bytes from byte x on.
@@ -25,7 +27,9 @@ pub fn word(bytes: &[u8], x: usize) -> u64
     requires { ⌜ x + 8 ≤ length (now bytes) ⌝ }
     ensures { λ r. ⌜ r ≡ valueOf (now (bytes .entry)) x 8 ⌝ }
 {
-    four(bytes, x) + 4294967296 * four(bytes, x + 4)
+    let low = four(bytes, x);
+    let high = four(bytes, x + 4);
+    low + 4294967296 * high
 }
 
 // All words of a buffer.
