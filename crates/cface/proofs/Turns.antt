@@ -167,15 +167,19 @@ module _ (x y : Size) (w : ℕ) (a b : List ℕ) (hm : x .rows ≤ 64) (hl : x .
   meaning : (d budget : ℕ) (job t p : List ℕ) (S : Stands d job t p) → turnFace job a b t p budget ≡ turnFace (recordAt d (S .made) (S .ended)) a b (tableAt d) (productAt d) budget
   meaning d budget job t p S = rw (S .record-is, S .table-is, S .product-is)
 
+  next-stands : (d budget : ℕ) (job t p : List ℕ) → d ≤ long → Stands d job t p
+      → turnFace job a b t p budget ≡ (0, (recordAt (d + makes d budget) (makes d budget) (eqb (d + makes d budget) long), (tableAt (d + makes d budget), productAt (d + makes d budget))))
+  next-stands d budget job t p h S = meaning d budget job t p S ∙ turn-stands d budget (S .made) (S .ended) h (S .made-fits)
+
   pub accepted : (d budget : ℕ) (job t p : List ℕ) → d ≤ long → Stands d job t p → turnFace job a b t p budget .0 ≡ 0
   unfolding Outcome
-  accepted d budget job t p h S = ap (λ (o : Outcome). o .0) (meaning d budget job t p S ∙ turn-stands d budget (S .made) (S .ended) h (S .made-fits))
+  accepted d budget job t p h S = ap (λ (o : Outcome). o .0) (next-stands d budget job t p h S)
 
   one-turn : (d budget : ℕ) (job t p job₁ t₁ p₁ : List ℕ) → d ≤ long → Stands d job t p → _≡_ {A = ℕ × (List ℕ × (List ℕ × List ℕ))} (0, (job₁, (t₁, p₁))) (turnFace job a b t p budget)
       → Stands (min (d + budget) long) job₁ t₁ p₁
   unfolding Outcome
   one-turn d budget job t p job₁ t₁ p₁ h S says =
-      let e = says ∙ meaning d budget job t p S ∙ turn-stands d budget (S .made) (S .ended) h (S .made-fits) in
+      let e = says ∙ next-stands d budget job t p h S in
       let next : d + makes d budget ≡ min (d + budget) long = omega arith in
       subst (λ (j : ℕ). Stands j job₁ t₁ p₁) next
       (record {
@@ -257,3 +261,19 @@ module _ (x y : Size) (w : ℕ) (job a b t p job₀ t₀ p₀ : List ℕ) (opene
     -- the next turn is accepted too
     pub demand-3-goes-on : (budget : ℕ) → turnFace job₁ a b t₁ p₁ budget .0 ≡ 0
     demand-3-goes-on budget = accepted x y w a b (F .m) (F .l) (F .n) (F .narrow) (F .bytes-a) (F .bytes-b) (facts .left) (facts .right) reached budget job₁ t₁ p₁ (omega arith) demand-3
+
+    -- the record's words: m, l, n, the width and the steps done, and then the two of the last turn
+    pub demand-3-record : wordsIn job₁ ≡ recordOf (record { m = x .rows; l = x .columns; n = y .columns; width = meant w; done = reached }) (demand-3 .made) (demand-3 .ended)
+    demand-3-record =
+        ap wordsIn (demand-3 .record-is)
+        ∙ words-at x y w a b (F .m) (F .l) (F .n) (F .narrow) (F .bytes-a) (F .bytes-b) (facts .left) (facts .right) reached (demand-3 .made) (demand-3 .ended) (omega arith) (demand-3 .made-fits)
+
+    abbrev makes-next : ℕ → ℕ
+    makes-next budget = min budget (totalOf x (meant w) (wordsIn a) - reached)
+
+    -- one turn more: the last two words say the steps that it made, and whether the list has ended
+    pub demand-3-last : (budget : ℕ) → turnFace job₁ a b t₁ p₁ budget .1 .0
+        ≡ bytesOf (recordOf (record { m = x .rows; l = x .columns; n = y .columns; width = meant w; done = reached + makes-next budget }) (makes-next budget) (eqb (reached + makes-next budget) (totalOf x (meant w) (wordsIn a))))
+    demand-3-last budget =
+        ap (λ (o : ℕ × (List ℕ × (List ℕ × List ℕ))). o .1 .0)
+        (next-stands x y w a b (F .m) (F .l) (F .n) (F .narrow) (F .bytes-a) (F .bytes-b) (facts .left) (facts .right) reached budget job₁ t₁ p₁ (omega arith) demand-3)
