@@ -11,11 +11,11 @@ use lib.Dec.{eqb}
 use lib.ListN.{length, getD}
 use borrow.Author.Tests.{le-ltb, eq-eqb, ne-eqb}
 use Rattle.buffers.specs.Buffer.{words, cell, Words, Legal, encode}
-use Rattle.buffers.proofs.BufferLaws.{encode-length, encode-words}
+use Rattle.buffers.proofs.BufferLaws.{tests-legal, encode-length, encode-words}
 use Rattle.requests.specs.declared.Size.{Size}
 use Rattle.requests.specs.Answers.{first, left}
-use Rattle.requests.specs.Sizes.{over}
-use Rattle.requests.proofs.AnswerLaws.{none-first, done-makes, append-front}
+use Rattle.requests.specs.Sizes.{over, faults}
+use Rattle.requests.proofs.AnswerLaws.{none-first, finished, done-makes, append-front}
 use Rattle.steps.specs.Matrix.{schoolbook}
 use Rattle.steps.specs.Step.{State, run, opening}
 use Rattle.steps.specs.StepList.{steps}
@@ -141,6 +141,36 @@ module _ (x y : Size) (w : ℕ) (a b : List ℕ) (hm : x .rows ≤ 64) (hl : x .
           ),
         ),
       )
+
+  -- these matrices are opened with any table and product of the right length, whatever the record's 56 bytes were
+  pub opens : (job t p : List ℕ) → x .columns ≡ y .rows → length job ≡ 56 → length t ≡ 8 * words (2 ^ meant w) (y .columns) → length p ≡ 8 * words (x .rows) (y .columns)
+      → openFace x y w job a b t p ≡ (0, (recordAt 0 0 false, (tableAt 0, productAt 0)))
+  unfolding openFace openFaceTests openSizes unfitRecord misfitBytes faults after run opening
+  opens job t p same r lt lp =
+      let ta = tests-legal (x .rows) (x .columns) (wordsIn a) LA in
+      let LY : Legal (y .rows) (y .columns) (wordsIn b) = rw (← same) LB in
+      let tb = tests-legal (y .rows) (y .columns) (wordsIn b) LY in
+      let ly : length b ≡ 8 * words (y .rows) (y .columns) = rw (← same) lb in
+      let hy : y .rows ≤ 64 = omega arith in
+      sym (finished _ _ _ _ (none-first (openFaceTests x y w (length job) a b (length t) (length p)) (
+        rw (eq-eqb (length job) (8 * 7) r),
+        (
+          rw (small x hm hl) (small y hy hn),
+          (
+            rw (within x hm hl) (within y hy hn),
+            (
+              rw (eq-eqb (x .columns) (y .rows) same),
+              (
+                le-ltb 8 w hw,
+                (
+                  rw (fits x (length a) la, fits y (length b) ly, fits (tableSize y (meant w)) (length t) lt) (fits (productSize x y) (length p) lp),
+                  (ta .0, (ta .1, (tb .0, (tb .1, (le-ltb 4294967295 long (omega (arith, long-small)), tt))))),
+                ),
+              ),
+            ),
+          ),
+        ),
+      )) refl)
 
   -- a turn of a job that stands at d is accepted; the record says the steps made and whether the list has ended
   pub turn-stands : (d budget made : ℕ) (ended : Bool) → d ≤ long → made < 2 ^ 64

@@ -38,6 +38,7 @@ fn check_words(s: Size, a: &[u8], words: &mut [u64]) -> u64
     number(check(s, words))
 }
 
+// Lends the part of exactly the right length.
 fn check_part(s: Size, a: &[u8], words: &mut [u64]) -> u64
     requires { ⌜ (first (checkSizes s (length (now a))) ≡ 0) × (length (now words) ≡ 128) ⌝ }
     ensures { λ r. ⌜ r ≡ checkFace s (now (a .entry)) ⌝ }
@@ -46,6 +47,7 @@ fn check_part(s: Size, a: &[u8], words: &mut [u64]) -> u64
     check_words(s, a, &mut words[0..n])
 }
 
+// Room for the most words that the limit allows.
 fn check_room(s: Size, a: &[u8]) -> u64
     requires { ⌜ first (checkSizes s (length (now a))) ≡ 0 ⌝ }
     ensures { λ r. ⌜ r ≡ checkFace s (now (a .entry)) ⌝ }

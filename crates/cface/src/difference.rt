@@ -31,6 +31,7 @@ fn difference_words(
     leave(f, w, out)
 }
 
+// Lends the parts of exactly the right length.
 fn difference_parts(
     x: Size,
     y: Size,
@@ -50,6 +51,7 @@ fn difference_parts(
     difference_words(x, y, a, b, out, &mut u[0..i], &mut v[0..j], &mut w[0..k])
 }
 
+// Room for the most words that the limit allows.
 fn difference_room(x: Size, y: Size, a: &[u8], b: &[u8], out: &mut [u8]) -> u64
     requires { ⌜ first (pairSizes x y (length (now a)) (length (now b)) (length (now out))) ≡ 0 ⌝ }
     ensures { λ r. ⌜ (r, now (out .exit)) ≡ differenceFace x y (now (a .entry)) (now (b .entry)) (now (out .entry)) ⌝ }

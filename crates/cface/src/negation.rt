@@ -53,6 +53,7 @@ fn negation_words(s: Size, a: &[u8], out: &mut [u8], u: &mut [u64], w: &mut [u64
     leave(f, w, out)
 }
 
+// Lends the parts of exactly the right length.
 fn negation_parts(s: Size, a: &[u8], out: &mut [u8], u: &mut [u64], w: &mut [u64]) -> u64
     requires { ⌜ (first (negationSizes s (length (now a)) (length (now out))) ≡ 0) × (length (now u) ≡ 128) × (length (now w) ≡ 128) ⌝ }
     ensures { λ r. ⌜ (r, now (out .exit)) ≡ negationFace s (now (a .entry)) (now (out .entry)) ⌝ }
@@ -62,6 +63,7 @@ fn negation_parts(s: Size, a: &[u8], out: &mut [u8], u: &mut [u64], w: &mut [u64
     negation_words(s, a, out, &mut u[0..n], &mut w[0..k])
 }
 
+// Room for the most words that the limit allows.
 fn negation_room(s: Size, a: &[u8], out: &mut [u8]) -> u64
     requires { ⌜ first (negationSizes s (length (now a)) (length (now out))) ≡ 0 ⌝ }
     ensures { λ r. ⌜ (r, now (out .exit)) ≡ negationFace s (now (a .entry)) (now (out .entry)) ⌝ }

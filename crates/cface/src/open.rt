@@ -66,6 +66,7 @@ fn open_words(
     leave_job(f, new, 0, false, t, p, job, table, product)
 }
 
+// Lends the parts of exactly the right length.
 fn open_parts(
     x: Size,
     y: Size,
@@ -103,6 +104,7 @@ fn open_parts(
     )
 }
 
+// Room for the most words that the limit allows.
 fn open_room(
     x: Size,
     y: Size,

@@ -59,6 +59,7 @@ fn product_words(
     leave(f, w, out)
 }
 
+// Lends the parts of exactly the right length.
 fn product_parts(
     x: Size,
     y: Size,
@@ -90,6 +91,7 @@ fn product_parts(
     )
 }
 
+// Room for the most words that the limit allows.
 fn product_room(x: Size, y: Size, a: &[u8], b: &[u8], out: &mut [u8]) -> u64
     requires { ⌜ first (productSizes x y (length (now a)) (length (now b)) (length (now out))) ≡ 0 ⌝ }
     ensures { λ r. ⌜ (r, now (out .exit)) ≡ productFace x y (now (a .entry)) (now (b .entry)) (now (out .entry)) ⌝ }

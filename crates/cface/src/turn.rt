@@ -96,6 +96,7 @@ fn turn_words(
     )
 }
 
+// Lends the parts of exactly the right length.
 fn turn_parts(
     found: Job,
     job: &mut [u8],
@@ -131,6 +132,7 @@ fn turn_parts(
     )
 }
 
+// Room for the most words that the limit allows.
 fn turn_room(
     found: Job,
     job: &mut [u8],
