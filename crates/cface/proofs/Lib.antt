@@ -1,0 +1,7 @@
+pub mod ByteLaws
+pub mod LimitLaws
+pub mod CarryLaws
+pub mod JobCarryLaws
+pub mod Outcomes
+pub mod Refusals
+pub mod Turns

@@ -1,0 +1,309 @@
+-- Demand 3, carried over to the C face's record and buffers: for two legal matrices of at most 64 rows and columns that fit and any width, after
+-- any accepted turns with any budgets on the bytes as last left, the record's words are m, l, n, the width, and the smaller of the budgets' sum
+-- and the list's length; table and product are the bytes of what that many first steps leave. At the end the product is the schoolbook one.
+-- Assumes nothing.
+use mathlib.Core.Path.{_≡_, refl, sym, ap, subst, _∙_}
+use mathlib.Core.Bool.{Bool, true, false, not, cond}
+use mathlib.Core.List.{List, [], _∷_}
+use Prim.Native.Nat.{ℕ, zero, suc, _+_, _-_, _*_, _/_, _^_, _≤_, _<_, min}
+use native.Mathlib.Omega.{arith}
+use lib.Dec.{eqb}
+use lib.ListN.{length, getD}
+use borrow.Author.Tests.{le-ltb, eq-eqb, ne-eqb}
+use Rattle.buffers.specs.Buffer.{words, cell, Words, Legal, encode}
+use Rattle.buffers.proofs.BufferLaws.{tests-legal, encode-length, encode-words}
+use Rattle.requests.specs.declared.Size.{Size}
+use Rattle.requests.specs.Answers.{first, left}
+use Rattle.requests.specs.Sizes.{over, faults}
+use Rattle.requests.proofs.AnswerLaws.{none-first, finished, done-makes, append-front}
+use Rattle.steps.specs.Matrix.{schoolbook}
+use Rattle.steps.specs.Step.{State, run, opening}
+use Rattle.steps.specs.StepList.{steps}
+use Rattle.steps.specs.Count.{total}
+use Rattle.steps.specs.Turn.{after, allBudgets}
+use Rattle.steps.proofs.Counts.{total-small}
+use Rattle.matrix.specs.declared.job.Job.{Job}
+use Rattle.matrix.specs.Job.{meant, tableSize, productSize, totalOf}
+use Rattle.matrix.specs.Opening.{newJob}
+use Rattle.matrix.specs.Turn.{sizeA, sizeB}
+use Rattle.matrix.proofs.JobLaws.{meant-pos, meant-le, Fitting, fitting-ready, opening-first}
+use Rattle.matrix.proofs.Demand3.{turn-at, end-right}
+use Rattle.cface.specs.Bytes.{wordsIn, bytesOf}
+use Rattle.cface.specs.Limit.{above, unfitBytes, misfitBytes}
+use Rattle.cface.specs.Record.{unfitRecord, jobIn, recordOf}
+use Rattle.cface.specs.Open.{openSizes, openFaceTests, openFace}
+use Rattle.cface.specs.Turn.{turnSizes, turnFace}
+use Rattle.cface.proofs.ByteLaws.{words-bytes, bytes-length}
+use Rattle.cface.proofs.JobCarryLaws.{Fits, open-fits, open-same, turn-carried}
+
+-- ---- the record
+
+-- the job is read back from its record's words, whatever the last two are
+pub job-read : (job : Job) (made : ℕ) (ended : Bool) → jobIn (recordOf job made ended) ≡ job
+unfolding jobIn recordOf getD
+job-read job made ended = refl
+
+flag-lt : (ended : Bool) → cond ended 1 0 < 2
+flag-lt true = omega arith
+flag-lt false = omega arith
+
+pub record-words : (job : Job) (made : ℕ) (ended : Bool) → job .m < 2 ^ 64 → job .l < 2 ^ 64 → job .n < 2 ^ 64 → job .width < 2 ^ 64 → job .done < 2 ^ 64 → made < 2 ^ 64 → Words (recordOf job made ended)
+unfolding recordOf getD
+record-words job made ended m l n w d h zero = m
+record-words job made ended m l n w d h (suc zero) = l
+record-words job made ended m l n w d h (suc (suc zero)) = n
+record-words job made ended m l n w d h (suc (suc (suc zero))) = w
+record-words job made ended m l n w d h (suc (suc (suc (suc zero)))) = d
+record-words job made ended m l n w d h (suc (suc (suc (suc (suc zero))))) = h
+record-words job made ended m l n w d h (suc (suc (suc (suc (suc (suc zero)))))) = omega (arith, flag-lt ended)
+record-words job made ended m l n w d h (suc (suc (suc (suc (suc (suc (suc k))))))) = omega arith
+
+-- ---- tests that do not hold
+
+small : (s : Size) → s .rows ≤ 64 → s .columns ≤ 64 → over s ≡ false
+unfolding over
+small s h l = rw (le-ltb 1024 (s .rows) (omega arith), le-ltb 1024 (s .columns) (omega arith))
+
+within : (s : Size) → s .rows ≤ 64 → s .columns ≤ 64 → above s ≡ false
+unfolding above
+within s h l = rw (le-ltb 64 (s .rows) h, le-ltb 64 (s .columns) l)
+
+fits : (s : Size) (n : ℕ) → n ≡ 8 * words (s .rows) (s .columns) → unfitBytes s n ≡ false
+unfolding unfitBytes
+fits s n e = rw (eq-eqb n (8 * words (s .rows) (s .columns)) e)
+
+encoded-length : (r c : ℕ) (M : ℕ → ℕ → ℕ) → length (bytesOf (encode r c M)) ≡ 8 * words r c
+encoded-length r c M = bytes-length (encode r c M) ∙ ap (λ (n : ℕ). 8 * n) (encode-length r c M)
+
+-- ---- turns that are given one after another: each is handed the bytes as last left, and is accepted
+
+pub data Turns (a b : List ℕ) : List ℕ → List ℕ → List ℕ → List ℕ → List ℕ → List ℕ → List ℕ → Type 0 where
+  none : {job t p : List ℕ} → Turns a b job t p [] job t p
+  more : {job t p job₁ t₁ p₁ job₂ t₂ p₂ budgets : List ℕ} (budget : ℕ) → _≡_ {A = ℕ × (List ℕ × (List ℕ × List ℕ))} (0, (job₁, (t₁, p₁))) (turnFace job a b t p budget)
+      → Turns a b job₁ t₁ p₁ budgets job₂ t₂ p₂ → Turns a b job t p (budget ∷ budgets) job₂ t₂ p₂
+
+module _ (x y : Size) (w : ℕ) (a b : List ℕ) (hm : x .rows ≤ 64) (hl : x .columns ≤ 64) (hn : y .columns ≤ 64) (hw : w ≤ 8) (la : length a ≡ 8 * words (x .rows) (x .columns)) (lb : length b ≡ 8 * words (x .columns) (y .columns)) (LA : Legal (x .rows) (x .columns) (wordsIn a)) (LB : Legal (x .columns) (y .columns) (wordsIn b)) where
+  im : x .rows ≤ 1024
+  im = omega arith
+
+  il : x .columns ≤ 1024
+  il = omega arith
+
+  jn : y .columns ≤ 1024
+  jn = omega arith
+
+  -- the list's length; the state after the first d steps, and the record, the table and the product of a job that stands there
+  abbrev pub long : ℕ
+  long = total (x .rows) (x .columns) (meant w) (cell (x .columns) (wordsIn a))
+
+  abbrev pub at : ℕ → State
+  at d = after (cell (y .columns) (wordsIn b)) (steps (x .rows) (x .columns) (meant w) (cell (x .columns) (wordsIn a))) opening d
+
+  abbrev pub jobAt : ℕ → Job
+  jobAt d = record { m = x .rows; l = x .columns; n = y .columns; width = meant w; done = d }
+
+  abbrev pub recordAt : ℕ → ℕ → Bool → List ℕ
+  recordAt d made ended = bytesOf (recordOf (jobAt d) made ended)
+
+  abbrev pub tableAt : ℕ → List ℕ
+  tableAt d = bytesOf (encode (2 ^ meant w) (y .columns) (at d .table))
+
+  abbrev pub productAt : ℕ → List ℕ
+  productAt d = bytesOf (encode (x .rows) (y .columns) (at d .product))
+
+  long-small : long < 2 ^ 32
+  long-small = total-small (x .rows) (x .columns) (meant w) (cell (x .columns) (wordsIn a)) im il (meant-pos w) (meant-le w hw)
+
+  abbrev makes : ℕ → ℕ → ℕ
+  makes d budget = min budget (long - d)
+
+  words-at : (d made : ℕ) (ended : Bool) → d ≤ long → made < 2 ^ 64 → wordsIn (recordAt d made ended) ≡ recordOf (jobAt d) made ended
+  words-at d made ended h small-made =
+      words-bytes _ (record-words (jobAt d) made ended (omega arith) (omega arith) (omega arith) (omega (arith, meant-le w hw)) (omega (arith, long-small)) small-made)
+
+  no-size : (d made : ℕ) (ended : Bool) → first (turnSizes (jobAt d) (length (recordAt d made ended)) (length a) (length b) (length (tableAt d)) (length (productAt d))) ≡ 0
+  unfolding turnSizes unfitRecord misfitBytes recordOf
+  no-size d made ended =
+      none-first _ (
+        rw (eq-eqb (length (recordAt d made ended)) (8 * 7) (bytes-length (recordOf (jobAt d) made ended))),
+        (
+          rw (small (sizeA (jobAt d)) hm hl) (small (sizeB (jobAt d)) hl hn),
+          (
+            rw (within (sizeA (jobAt d)) hm hl) (within (sizeB (jobAt d)) hl hn),
+            (
+              rw (ne-eqb (meant w) 0 (λ e. omega (arith, meant-pos w))) (le-ltb 8 (meant w) (meant-le w hw)),
+              (
+                rw (fits (sizeA (jobAt d)) (length a) la, fits (sizeB (jobAt d)) (length b) lb, fits (tableSize y (meant w)) (length (tableAt d)) (encoded-length (2 ^ meant w) (y .columns) _))
+                    (fits (productSize x y) (length (productAt d)) (encoded-length (x .rows) (y .columns) _)),
+                tt,
+              ),
+            ),
+          ),
+        ),
+      )
+
+  -- these matrices are opened with any table and product of the right length, whatever the record's 56 bytes were
+  pub opens : (job t p : List ℕ) → x .columns ≡ y .rows → length job ≡ 56 → length t ≡ 8 * words (2 ^ meant w) (y .columns) → length p ≡ 8 * words (x .rows) (y .columns)
+      → openFace x y w job a b t p ≡ (0, (recordAt 0 0 false, (tableAt 0, productAt 0)))
+  unfolding openFace openFaceTests openSizes unfitRecord misfitBytes faults after run opening
+  opens job t p same r lt lp =
+      let ta = tests-legal (x .rows) (x .columns) (wordsIn a) LA in
+      let LY : Legal (y .rows) (y .columns) (wordsIn b) = rw (← same) LB in
+      let tb = tests-legal (y .rows) (y .columns) (wordsIn b) LY in
+      let ly : length b ≡ 8 * words (y .rows) (y .columns) = rw (← same) lb in
+      let hy : y .rows ≤ 64 = omega arith in
+      sym (finished _ _ _ _ (none-first (openFaceTests x y w (length job) a b (length t) (length p)) (
+        rw (eq-eqb (length job) (8 * 7) r),
+        (
+          rw (small x hm hl) (small y hy hn),
+          (
+            rw (within x hm hl) (within y hy hn),
+            (
+              rw (eq-eqb (x .columns) (y .rows) same),
+              (
+                le-ltb 8 w hw,
+                (
+                  rw (fits x (length a) la, fits y (length b) ly, fits (tableSize y (meant w)) (length t) lt) (fits (productSize x y) (length p) lp),
+                  (ta .0, (ta .1, (tb .0, (tb .1, (le-ltb 4294967295 long (omega (arith, long-small)), tt))))),
+                ),
+              ),
+            ),
+          ),
+        ),
+      )) refl)
+
+  -- a turn of a job that stands at d is accepted; the record says the steps made and whether the list has ended
+  pub turn-stands : (d budget made : ℕ) (ended : Bool) → d ≤ long → made < 2 ^ 64
+      → turnFace (recordAt d made ended) a b (tableAt d) (productAt d) budget
+      ≡ (0, (recordAt (d + makes d budget) (makes d budget) (eqb (d + makes d budget) long), (tableAt (d + makes d budget), productAt (d + makes d budget))))
+  unfolding left
+  turn-stands d budget made ended h small-made =
+      sym (turn-carried (jobAt d) (recordAt d made ended) a b (tableAt d) (productAt d) (wordsIn a) (wordsIn b) (encode (2 ^ meant w) (y .columns) (at d .table)) (encode (x .rows) (y .columns) (at d .product)) _ _ budget _ _ _ 0 0
+      (sym (ap jobIn (words-at d made ended h small-made) ∙ job-read (jobAt d) made ended)) (no-size d made ended) refl refl (sym (words-bytes _ (encode-words (2 ^ meant w) (y .columns) _))) (sym (words-bytes _ (encode-words (x .rows) (y .columns) _))) refl
+      (sym (turn-at x y w (wordsIn a) (wordsIn b) im il jn hw LA LB d budget h)))
+
+  -- a job that stands at d: the first five words of the record are its own
+  pub record Stands (d : ℕ) (job t p : List ℕ) : Type 0 where
+    pub made : ℕ
+    pub ended : Bool
+    pub made-fits : made < 2 ^ 64
+    pub record-is : job ≡ recordAt d made ended
+    pub table-is : t ≡ tableAt d
+    pub product-is : p ≡ productAt d
+
+  Outcome : Type 0
+  Outcome = ℕ × (List ℕ × (List ℕ × List ℕ))
+
+  meaning : (d budget : ℕ) (job t p : List ℕ) (S : Stands d job t p) → turnFace job a b t p budget ≡ turnFace (recordAt d (S .made) (S .ended)) a b (tableAt d) (productAt d) budget
+  meaning d budget job t p S = rw (S .record-is, S .table-is, S .product-is)
+
+  next-stands : (d budget : ℕ) (job t p : List ℕ) → d ≤ long → Stands d job t p
+      → turnFace job a b t p budget ≡ (0, (recordAt (d + makes d budget) (makes d budget) (eqb (d + makes d budget) long), (tableAt (d + makes d budget), productAt (d + makes d budget))))
+  next-stands d budget job t p h S = meaning d budget job t p S ∙ turn-stands d budget (S .made) (S .ended) h (S .made-fits)
+
+  pub accepted : (d budget : ℕ) (job t p : List ℕ) → d ≤ long → Stands d job t p → turnFace job a b t p budget .0 ≡ 0
+  unfolding Outcome
+  accepted d budget job t p h S = ap (λ (o : Outcome). o .0) (next-stands d budget job t p h S)
+
+  one-turn : (d budget : ℕ) (job t p job₁ t₁ p₁ : List ℕ) → d ≤ long → Stands d job t p → _≡_ {A = ℕ × (List ℕ × (List ℕ × List ℕ))} (0, (job₁, (t₁, p₁))) (turnFace job a b t p budget)
+      → Stands (min (d + budget) long) job₁ t₁ p₁
+  unfolding Outcome
+  one-turn d budget job t p job₁ t₁ p₁ h S says =
+      let e = says ∙ next-stands d budget job t p h S in
+      let next : d + makes d budget ≡ min (d + budget) long = omega arith in
+      subst (λ (j : ℕ). Stands j job₁ t₁ p₁) next
+      (record {
+        made = makes d budget;
+        ended = eqb (d + makes d budget) long;
+        made-fits = omega (arith, long-small);
+        record-is = ap (λ (o : Outcome). o .1 .0) e;
+        table-is = ap (λ (o : Outcome). o .1 .1 .0) e;
+        product-is = ap (λ (o : Outcome). o .1 .1 .1) e;
+      })
+
+  sum-min : (d b c e : ℕ) → min (min (d + b) e + c) e ≡ min (d + (b + c)) e
+  sum-min d b c e = omega arith
+
+  pub turns-stand : (budgets : List ℕ) (d : ℕ) (job t p job₁ t₁ p₁ : List ℕ) → d ≤ long → Stands d job t p → Turns a b job t p budgets job₁ t₁ p₁
+      → Stands (min (d + allBudgets budgets) long) job₁ t₁ p₁
+  unfolding allBudgets
+  turns-stand [] d job t p job₁ t₁ p₁ h S none = let e : min (d + 0) long ≡ d = omega arith in rw e S
+  turns-stand (budget ∷ budgets) d job t p job₁ t₁ p₁ h S (more _ says rest) =
+      subst (λ (j : ℕ). Stands j job₁ t₁ p₁) (sum-min d budget (allBudgets budgets) long)
+      (turns-stand budgets (min (d + budget) long) _ _ _ job₁ t₁ p₁ (omega arith) (one-turn d budget job t p _ _ _ h S says) rest)
+
+  -- the end: the schoolbook product, for every width
+  pub end-stands : (d : ℕ) → long ≤ d → productAt d ≡ bytesOf (encode (x .rows) (y .columns) (schoolbook (x .columns) (cell (x .columns) (wordsIn a)) (cell (y .columns) (wordsIn b))))
+  end-stands d h = ap bytesOf (end-right x y w (wordsIn a) (wordsIn b) im il jn hw LA LB d h)
+
+-- ---- from an opening on
+
+module _ (x y : Size) (w : ℕ) (job a b t p job₀ t₀ p₀ : List ℕ) (opened : _≡_ {A = ℕ × (List ℕ × (List ℕ × List ℕ))} (0, (job₀, (t₀, p₀))) (openFace x y w job a b t p)) where
+  abbrev new : List ℕ × (List ℕ × List ℕ)
+  new = (bytesOf (recordOf (newJob x y w) 0 false), (bytesOf (encode (2 ^ meant w) (y .columns) (λ i j. 0)), bytesOf (encode (x .rows) (y .columns) (λ i j. 0))))
+
+  made : (first (openFaceTests x y w (length job) a b (length t) (length p)) ≡ 0) × (_≡_ {A = List ℕ × (List ℕ × List ℕ)} (job₀, (t₀, p₀)) new)
+  unfolding openFace
+  made = done-makes (openFaceTests x y w (length job) a b (length t) (length p)) _ new (job₀, (t₀, p₀)) opened
+
+  sizes : first (openSizes x y w (length job) (length a) (length b) (length t) (length p)) ≡ 0
+  unfolding openFaceTests openSizes
+  sizes = append-front (openSizes x y w (length job) (length a) (length b) (length t) (length p)) _ tt (made .0)
+
+  pub F : Fits x y w (length job) a b (length t) (length p)
+  F = open-fits x y w (length job) a b (length t) (length p) sizes
+
+  -- what an accepted opening is of
+  pub facts : Fitting x y w (wordsIn a) (wordsIn b) (length t / 8) (length p / 8)
+  facts =
+      fitting-ready x y w (wordsIn a) (wordsIn b) (length t / 8) (length p / 8)
+      (sym (opening-first x y w (wordsIn a) (wordsIn b) (length t / 8) (length p / 8)) ∙ open-same x y w (length job) a b (length t) (length p) sizes (length t / 8) (length p / 8) (F .table) (F .product) ∙ made .0)
+
+  abbrev Standing : ℕ → List ℕ → List ℕ → List ℕ → Type 0
+  Standing = Stands x y w a b (F .m) (F .l) (F .n) (F .narrow) (F .bytes-a) (F .bytes-b) (facts .left) (facts .right)
+
+  started : Standing 0 job₀ t₀ p₀
+  unfolding after run opening
+  started = record {
+    made = 0;
+    ended = false;
+    made-fits = omega arith;
+    record-is = ap (λ (o : List ℕ × (List ℕ × List ℕ)). o .0) (made .1);
+    table-is = ap (λ (o : List ℕ × (List ℕ × List ℕ)). o .1 .0) (made .1);
+    product-is = ap (λ (o : List ℕ × (List ℕ × List ℕ)). o .1 .1) (made .1);
+  }
+
+  module _ (budgets : List ℕ) (job₁ t₁ p₁ : List ℕ) (given : Turns a b job₀ t₀ p₀ budgets job₁ t₁ p₁) where
+    abbrev reached : ℕ
+    reached = min (allBudgets budgets) (totalOf x (meant w) (wordsIn a))
+
+    -- the record stands at the smaller of the budgets' sum and the list's length, and the buffers hold what that many first steps leave
+    pub demand-3 : Standing reached job₁ t₁ p₁
+    demand-3 =
+        let e : min (0 + allBudgets budgets) (totalOf x (meant w) (wordsIn a)) ≡ reached = omega arith in
+        subst (λ (d : ℕ). Standing d job₁ t₁ p₁) e
+        (turns-stand x y w a b (F .m) (F .l) (F .n) (F .narrow) (F .bytes-a) (F .bytes-b) (facts .left) (facts .right) budgets 0 job₀ t₀ p₀ job₁ t₁ p₁ (omega arith) started given)
+
+    -- at the end the product is the schoolbook one, whatever the width
+    pub demand-3-end : totalOf x (meant w) (wordsIn a) ≤ allBudgets budgets → p₁ ≡ bytesOf (encode (x .rows) (y .columns) (schoolbook (x .columns) (cell (x .columns) (wordsIn a)) (cell (y .columns) (wordsIn b))))
+    demand-3-end h = demand-3 .product-is ∙ end-stands x y w a b (F .m) (F .l) (F .n) (F .narrow) (F .bytes-a) (F .bytes-b) (facts .left) (facts .right) reached (omega arith)
+
+    -- the next turn is accepted too
+    pub demand-3-goes-on : (budget : ℕ) → turnFace job₁ a b t₁ p₁ budget .0 ≡ 0
+    demand-3-goes-on budget = accepted x y w a b (F .m) (F .l) (F .n) (F .narrow) (F .bytes-a) (F .bytes-b) (facts .left) (facts .right) reached budget job₁ t₁ p₁ (omega arith) demand-3
+
+    -- the record's words: m, l, n, the width and the steps done, and then the two of the last turn
+    pub demand-3-record : wordsIn job₁ ≡ recordOf (record { m = x .rows; l = x .columns; n = y .columns; width = meant w; done = reached }) (demand-3 .made) (demand-3 .ended)
+    demand-3-record =
+        ap wordsIn (demand-3 .record-is)
+        ∙ words-at x y w a b (F .m) (F .l) (F .n) (F .narrow) (F .bytes-a) (F .bytes-b) (facts .left) (facts .right) reached (demand-3 .made) (demand-3 .ended) (omega arith) (demand-3 .made-fits)
+
+    abbrev makes-next : ℕ → ℕ
+    makes-next budget = min budget (totalOf x (meant w) (wordsIn a) - reached)
+
+    -- one turn more: the last two words say the steps that it made, and whether the list has ended
+    pub demand-3-last : (budget : ℕ) → turnFace job₁ a b t₁ p₁ budget .1 .0
+        ≡ bytesOf (recordOf (record { m = x .rows; l = x .columns; n = y .columns; width = meant w; done = reached + makes-next budget }) (makes-next budget) (eqb (reached + makes-next budget) (totalOf x (meant w) (wordsIn a))))
+    demand-3-last budget =
+        ap (λ (o : ℕ × (List ℕ × (List ℕ × List ℕ))). o .1 .0)
+        (next-stands x y w a b (F .m) (F .l) (F .n) (F .narrow) (F .bytes-a) (F .bytes-b) (facts .left) (facts .right) reached budget job₁ t₁ p₁ (omega arith) demand-3)

@@ -1,0 +1,29 @@
+use mathlib.Core.Path.{sym, _∙_}
+use Rattle.cface.proofs.CarryLaws.{unasked}
+use Rattle.cface.specs.Sum.{sumFace}
+use Rattle.cface.specs.Pair.{pairFaceTests}
+use borrow.Author.Needs.{needs}
+use Rattle.cface.proofs.sum.nyuzolamba_sum.Statement.{statement}
+use Rattle.cface.proofs.sum.nyuzolamba_sum.Tie as tie
+
+judged-requires : tie.Need-judged-requires
+judged-requires c κs = search needs
+
+number-requires : tie.Need-number-requires
+number-requires c κs = search needs
+
+returns : tie.Need-returns
+unfolding sumFace pairFaceTests
+returns c = unasked _ _ _ _ _ (c .before .number .ensures ∙ c .before .before .judged .ensures) (c .if1 .taken)
+
+sum-room-requires : tie.Need-sum-room-requires
+sum-room-requires c κs = sym (c .before .before .before .judged .ensures) ∙ sym (c .before .before .number .ensures) ∙ c .before .if1 .left
+
+same-length : tie.Need-same-length
+same-length c = search needs
+
+returns-2 : tie.Need-returns-2
+returns-2 c = search needs
+
+pub nyuzolamba-sum-spec : {M : Type 1} → statement M
+nyuzolamba-sum-spec = tie.close (tie.spec judged-requires number-requires returns sum-room-requires same-length returns-2)

@@ -1,0 +1,38 @@
+-- What `nyuzolamba_open` answers and leaves: a record, and zero in table and product. Assumes nothing.
+use mathlib.Core.Bool.{false, not, _||_}
+use mathlib.Core.List.{List, [], _∷_, _++_}
+use Prim.Native.Nat.{ℕ, _^_}
+use lib.Dec.{ltb, eqb}
+use lib.ListN.{length}
+use Rattle.buffers.specs.Buffer.{encode}
+use Rattle.requests.specs.declared.Size.{Size}
+use Rattle.requests.specs.Answers.{Tests, answered}
+use Rattle.requests.specs.Sizes.{over, faults}
+use Rattle.matrix.specs.Job.{meant, totalOf, countless}
+use Rattle.matrix.specs.Opening.{newJob}
+use Rattle.cface.specs.Bytes.{wordsIn, bytesOf}
+use Rattle.cface.specs.Limit.{above, misfitBytes}
+use Rattle.cface.specs.Record.{unfitRecord, recordOf}
+
+-- the tests of sizes, width and lengths; k, l, m, t and p are how many bytes record, A, B, table and product have
+unfoldable pub openSizes : Size → Size → ℕ → ℕ → ℕ → ℕ → ℕ → ℕ → Tests
+openSizes x y width k l m t p =
+    (unfitRecord k, 4)
+    ∷ (over x || over y, 1)
+    ∷ (above x || above y, 11)
+    ∷ (not (eqb (x .columns) (y .rows)), 2)
+    ∷ (ltb 8 width, 3)
+    ∷ (misfitBytes x y (meant width) l m t p, 4)
+    ∷ []
+
+unfoldable pub openFaceTests : Size → Size → ℕ → ℕ → List ℕ → List ℕ → ℕ → ℕ → Tests
+openFaceTests x y width k a b t p =
+    openSizes x y width k (length a) (length b) t p ++ (faults x (wordsIn a) ++ (faults y (wordsIn b) ++ countless (totalOf x (meant width) (wordsIn a))))
+
+-- the record, and then table and product
+unfoldable pub openFace : Size → Size → ℕ → List ℕ → List ℕ → List ℕ → List ℕ → List ℕ → ℕ × (List ℕ × (List ℕ × List ℕ))
+openFace x y width r a b t p =
+    answered (openFaceTests x y width (length r) a b (length t) (length p)) (r, (t, p)) (
+      bytesOf (recordOf (newJob x y width) 0 false),
+      (bytesOf (encode (2 ^ meant width) (y .columns) (λ i j. 0)), bytesOf (encode (x .rows) (y .columns) (λ i j. 0))),
+    )

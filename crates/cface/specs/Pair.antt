@@ -1,0 +1,18 @@
+-- The tests of a call that makes a matrix of two of the same size. Assumes nothing.
+use mathlib.Core.Bool.{_||_}
+use mathlib.Core.List.{List, [], _∷_, _++_}
+use Prim.Native.Nat.{ℕ}
+use lib.ListN.{length}
+use Rattle.requests.specs.declared.Size.{Size}
+use Rattle.requests.specs.Answers.{Tests}
+use Rattle.requests.specs.Sizes.{over, faults}
+use Rattle.requests.specs.Pair.{unequal}
+use Rattle.cface.specs.Bytes.{wordsIn}
+use Rattle.cface.specs.Limit.{above, unfitBytes}
+
+-- the tests of sizes and lengths; l, m and n are how many bytes A, B and the result have
+unfoldable pub pairSizes : Size → Size → ℕ → ℕ → ℕ → Tests
+pairSizes x y l m n = (over x || over y, 1) ∷ (above x || above y, 11) ∷ (unequal x y, 2) ∷ (unfitBytes x l || (unfitBytes y m || unfitBytes x n), 4) ∷ []
+
+unfoldable pub pairFaceTests : Size → Size → List ℕ → List ℕ → ℕ → Tests
+pairFaceTests x y a b n = pairSizes x y (length a) (length b) n ++ (faults x (wordsIn a) ++ faults y (wordsIn b))
