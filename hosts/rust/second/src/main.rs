@@ -75,10 +75,17 @@ struct Outcome {
     difference: Option<String>,
 }
 
-fn shown(bytes: &[u8]) -> String {
-    let text = String::from_utf8_lossy(&bytes[..bytes.len().min(600)]).into_owned();
-    let more = if bytes.len() > 600 { format!(".. ({} bytes)", bytes.len()) } else { String::new() };
-    format!("{text:?}{more}")
+/// The bytes about place `at`, as text.
+fn shown(bytes: &[u8], at: usize) -> String {
+    let start = at.saturating_sub(60).min(bytes.len());
+    let end = (at + 60).min(bytes.len());
+    let before = if start > 0 { ".." } else { "" };
+    let after = if end < bytes.len() { ".." } else { "" };
+    format!("{before}{:?}{after}", String::from_utf8_lossy(&bytes[start..end]))
+}
+
+fn first_difference(x: &[u8], y: &[u8]) -> usize {
+    x.iter().zip(y).take_while(|(p, q)| p == q).count()
 }
 
 fn compare(options: &Options, index: u64) -> Outcome {
@@ -108,7 +115,9 @@ fn compare(options: &Options, index: u64) -> Outcome {
                 found.push(format!("  ended with {ended}"));
             }
             if ran.output != expected {
-                found.push(format!("  expected {}\n  got      {}", shown(&expected), shown(&ran.output)));
+                let at = first_difference(&expected, &ran.output);
+                let (want, got) = (shown(&expected, at), shown(&ran.output, at));
+                found.push(format!("  from byte {at} on:\n  expected {want}\n  got      {got}"));
             }
         }
         Err(error) => found.push(format!("  {error}")),
