@@ -41,3 +41,50 @@ native_rustc() {
     command -v rustc && return 0
     need rustc gcc libc6-dev && command -v rustc
 }
+
+# ---- hosts that link the archive of the C face, which is for x86-64
+# Programs are cross-built on another machine and run under Debian's emulator.
+archive=${NYUZOLAMBA_ARCHIVE:-$root/target/staticlib/libcface.a}
+
+# Sets cc and host_runner (words before a host program), and installs what they need.
+c_host() {
+    if [ "$machine" = x86_64 ]; then
+        need gcc libc6-dev || return 1
+        cc=gcc host_runner=
+    else
+        need gcc-x86-64-linux-gnu libc6-dev-amd64-cross qemu-user || return 1
+        cc=x86_64-linux-gnu-gcc host_runner=/usr/bin/qemu-x86_64
+    fi
+}
+
+# build_c NAME SOURCE..: a C host with the archive. On x86-64 the sanitizers watch it; elsewhere it is linked statically, for the emulator.
+build_c() {
+    local name=$1 more=-static
+    shift
+    [ "$machine" = x86_64 ] && more='-fsanitize=address,undefined -fno-sanitize-recover=all'
+    # shellcheck disable=SC2086
+    $cc -std=c99 -O2 -g -Wall -Wextra -pedantic -Werror $more -I "$root/include" -o "$out/$name" "$@" "$archive"
+}
+
+# build_rust NAME SOURCE: a Rust host with the archive.
+build_rust() {
+    local flags folder
+    folder=$out/link
+    mkdir -p "$folder" && cp "$archive" "$folder/libnyuzolamba.a" || return 1
+    if [ "$machine" = x86_64 ]; then
+        local rustc
+        rustc=$(native_rustc) || return 1
+        "$rustc" --edition 2021 -O -o "$out/$1" "$2" -L "native=$folder" -l static=nyuzolamba
+    else
+        # The compiler at hand has no library for x86-64; Debian's has.
+        need rustc libstd-rust-dev:amd64 || return 1
+        /usr/bin/rustc --edition 2021 -O --target x86_64-unknown-linux-gnu -C linker=x86_64-linux-gnu-gcc \
+            -o "$out/$1" "$2" -L "native=$folder" -l static=nyuzolamba
+    fi
+}
+
+# The archive, proved and made unless NYUZOLAMBA_ARCHIVE names one.
+make_archive() {
+    [ -n "${NYUZOLAMBA_ARCHIVE:-}" ] && return 0
+    (cd "$root" && rt staticlib cface) >"$out/staticlib.log" 2>&1 || { tail -n 20 "$out/staticlib.log" >&2; return 1; }
+}

@@ -71,10 +71,15 @@ static inline size_t nyuzolamba_bytes(uint64_t rows, uint64_t columns)
     return (size_t)(rows * (columns / 64 + (columns % 64 != 0)) * 16);
 }
 
-/* The bytes of a job's table: 2^width rows of as many columns as B has, also where A has fewer columns than the width. Width 0 is the default. */
+/* The bytes of a job's table: 2^width rows of as many columns as B has, also where A has fewer columns than the width. Width 0 is the default;
+ * a width above NYUZOLAMBA_WIDTH_MOST has no table, and gives 0. */
 static inline size_t nyuzolamba_table_bytes(uint64_t width, uint64_t b_columns)
 {
-    return nyuzolamba_bytes((uint64_t)1 << (width == 0 ? (uint64_t)NYUZOLAMBA_WIDTH_DEFAULT : width), b_columns);
+    if (width > NYUZOLAMBA_WIDTH_MOST)
+        return 0;
+    if (width == 0)
+        width = NYUZOLAMBA_WIDTH_DEFAULT;
+    return nyuzolamba_bytes((uint64_t)1 << width, b_columns);
 }
 
 /* Word number `index` of a buffer. */

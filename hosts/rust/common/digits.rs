@@ -82,27 +82,23 @@ pub fn words_of_plane(columns: usize) -> usize {
     columns / 64 + if columns % 64 == 0 { 0 } else { 1 }
 }
 
-/// 5 if a real column holds sign without unit, else 6 if a padding bit is set, else 0.
-pub fn fault(rows: usize, columns: usize, words: &[u64]) -> u8 {
+/// Whether a real column holds sign without unit, and whether a padding bit is set.
+pub fn faults(rows: usize, columns: usize, words: &[u64]) -> (bool, bool) {
     let q = words_of_plane(columns);
+    let mut stray = false;
     let mut padded = false;
     for i in 0..rows {
         for j in 0..64 * q {
             let unit = words[i * 2 * q + j / 64] >> (j % 64) & 1 == 1;
             let sign = words[i * 2 * q + q + j / 64] >> (j % 64) & 1 == 1;
-            if j < columns && sign && !unit {
-                return 5;
-            }
-            if j >= columns && (sign || unit) {
-                padded = true;
+            if j < columns {
+                stray |= sign && !unit;
+            } else {
+                padded |= sign || unit;
             }
         }
     }
-    if padded {
-        6
-    } else {
-        0
-    }
+    (stray, padded)
 }
 
 pub fn product(a: &Digits, b: &Digits) -> Digits {

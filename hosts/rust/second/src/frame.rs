@@ -1,6 +1,6 @@
 //! The text frames of document 01, and what the program multiply has to print for any input at all.
 
-use crate::digits::{fault, list, product, words_of_plane, Digits};
+use crate::digits::{faults, list, product, words_of_plane, Digits};
 
 /// Above this the program refuses with 11; above the next with 1.
 const PROGRAM_LIMIT: usize = 128;
@@ -34,9 +34,10 @@ fn multiply(input: &[u8]) -> Result<Vec<u8>, u8> {
         return Err(2);
     }
     for m in [&a, &b] {
-        match fault(m.rows, m.columns, &m.words) {
-            0 => {}
-            number => return Err(number),
+        match faults(m.rows, m.columns, &m.words) {
+            (true, _) => return Err(5),
+            (false, true) => return Err(6),
+            (false, false) => {}
         }
     }
     let a = Digits::of_words(a.rows, a.columns, &a.words);
