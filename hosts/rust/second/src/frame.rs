@@ -17,10 +17,10 @@ pub fn answer(input: &[u8]) -> Vec<u8> {
 }
 
 /// A matrix as its text says: any words, legal or not.
-struct Read {
-    rows: usize,
-    columns: usize,
-    words: Vec<u64>,
+pub struct Read {
+    pub rows: usize,
+    pub columns: usize,
+    pub words: Vec<u64>,
 }
 
 fn multiply(input: &[u8]) -> Result<Vec<u8>, u8> {
@@ -66,7 +66,8 @@ fn number(digits: &[u8]) -> u64 {
     digits.iter().fold(0, |sum, digit| sum * 16 + value(*digit).unwrap())
 }
 
-fn matrix(rest: &mut &[u8]) -> Result<Read, u8> {
+/// Takes a matrix from the front, or says why it cannot.
+pub fn matrix(rest: &mut &[u8]) -> Result<Read, u8> {
     let header = line(rest, 8)?;
     let rows = number(&header[..4]) as usize;
     let columns = number(&header[4..]) as usize;
