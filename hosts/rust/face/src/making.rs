@@ -196,16 +196,17 @@ fn made(random: &mut Random, plan: &Plan) -> Call {
 }
 
 pub fn budget(random: &mut Random) -> u32 {
-    match random.below(8) {
+    match random.below(9) {
         0 => 0,
         1 => 1,
         2 => u32::MAX,
         3 => random.word() as u32,
+        4 => random.of(&[1 << 8, 1 << 16, 1 << 24, 1 << 31]),
         _ => random.below(200) as u32,
     }
 }
 
-/// A record for a turn: steps done anywhere in the list or, on request, beyond it; the last two words are noise, since no turn reads them.
+/// A record for a turn: steps done anywhere in the list or, on request, beyond it. The last two words are anything, since no turn reads them.
 fn record(random: &mut Random, plan: &Plan, a: &[u8], beyond: bool) -> Vec<u8> {
     let (m, l, n, width) = (plan.a_size.0, plan.a_size.1, plan.b_size.1, plan.width);
     let countable = m <= 64 && l <= 64 && (1..=8).contains(&width) && a.len() == 16 * words_of_plane(l as usize) * m as usize;
@@ -223,7 +224,8 @@ fn record(random: &mut Random, plan: &Plan, a: &[u8], beyond: bool) -> Vec<u8> {
             _ => random.below(total as usize + 1) as u64,
         }
     };
-    let mut made = vec![m, l, n, width, steps, random.word(), random.word()];
+    let noise = random.word();
+    let mut made = vec![m, l, n, width, steps, random.of(&[0, 1, steps, noise]), random.of(&[0, 1, noise])];
     // Once in a while a record of noise.
     if random.once_in(200) {
         made = (0..7).map(|_| random.word()).collect();
