@@ -169,9 +169,11 @@ const NO_DIGIT: [u8; 20] = [
     b'g', b'G', b'/', b':', b'`', b'@', b' ', b'\t', 0, 255, 0x80, b'-', b'+', b'x', b'_', b'\r', 11, 0xb2, b'A' + 128, b'0' + 128,
 ];
 
+const BAD_LINES: usize = 11;
+
 /// Faults of the lines, which all are 10.
-fn bad_line(random: &mut Random, text: &mut Text) -> &'static str {
-    match random.below(10) {
+fn bad_line(random: &mut Random, text: &mut Text, which: usize) -> &'static str {
+    match which % BAD_LINES {
         0 => {
             let s = side(random);
             let header = text.header(s);
@@ -226,10 +228,16 @@ fn bad_line(random: &mut Random, text: &mut Text) -> &'static str {
             line.splice(0..0, *b"0000000000000000");
             "a word too many"
         }
-        _ => {
+        9 => {
             let line = text.line(random);
             line.insert(0, random.of(b" 0\t+"));
             "a byte before a line"
+        }
+        _ => {
+            let line = text.line(random);
+            let at = line.len() - 1;
+            line[at] = random.of(b" 0\r\x00\x0b\xff");
+            "another byte in place of byte 10"
         }
     }
 }
@@ -264,7 +272,8 @@ fn damaged(random: &mut Random, nth: u64) -> Input {
         }
         1 | 2 | 3 | 4 => {
             let mut text = draft.lines();
-            let kind = bad_line(random, &mut text);
+            let which = nth / 25 * 4 + nth % 25;
+            let kind = bad_line(random, &mut text, which as usize);
             text.input(kind.to_string(), Some(10))
         }
         5 => {
@@ -336,12 +345,14 @@ fn damaged(random: &mut Random, nth: u64) -> Input {
             draft.a.stray(random);
             draft.b = Part::random(random, l + 1, n);
             let mut text = draft.lines();
-            let kind = bad_line(random, &mut text);
+            let which = random.below(BAD_LINES);
+            let kind = bad_line(random, &mut text, which);
             text.input(format!("2 and 5 and {kind}"), Some(10))
         }
         20 => {
             let mut text = draft.lines();
-            let first = bad_line(random, &mut text);
+            let which = random.below(BAD_LINES);
+            let first = bad_line(random, &mut text, which);
             let (second, _) = over_header(random, &mut text);
             text.input(format!("{first}; {second}"), None)
         }
