@@ -57,11 +57,22 @@ c_host() {
     fi
 }
 
+# The library allocates nothing: leaks would be the host's own, and looking for them fails in some containers.
+export ASAN_OPTIONS=${ASAN_OPTIONS:-detect_leaks=0}
+
 # build_c NAME SOURCE..: a C host with the archive. On x86-64 the sanitizers watch it; elsewhere it is linked statically, for the emulator.
 build_c() {
-    local name=$1 more=-static
-    shift
+    local more=-static
     [ "$machine" = x86_64 ] && more='-fsanitize=address,undefined -fno-sanitize-recover=all'
+    compile_c "$more" "$@"
+}
+
+# The same without the sanitizers: their start takes seconds on some machines.
+build_c_plain() { compile_c -static "$@"; }
+
+compile_c() { # FLAGS NAME SOURCE..
+    local more=$1 name=$2
+    shift 2
     # shellcheck disable=SC2086
     $cc -std=c99 -O2 -g -Wall -Wextra -pedantic -Werror $more -I "$root/include" -o "$out/$name" "$@" "$archive"
 }

@@ -15,8 +15,8 @@
  * OVERLAP. Buffers that are only read may overlap or be one: A and B may be the same buffer. A buffer that is written (out, product, table,
  * record) shares no byte with any other buffer of the call. No call can test this: the host sees to it.
  *
- * THREADS. There is no state: calls may run at once in any number of threads as long as no call writes a buffer that another one uses. A
- * whole product uses some kilobytes of stack for its table.
+ * THREADS. There is no state: calls may run at once in any number of threads as long as no call writes a buffer that another one uses. A call
+ * uses up to eight kilobytes of stack.
  *
  * ANSWERS. Each call returns one of the numbers below. On any number but NYUZOLAMBA_DONE it has written nothing: every buffer, the record too,
  * holds what it held. Where several numbers would fit, the first one in the order written at the call comes back. A test runs over all that
