@@ -72,8 +72,12 @@ fn main() {
             }
         };
         print!("{}{}{}", gp("A", &a), gp("B", &b), gp("P", &product));
-        println!("if(lift((A*Mod(1,3))*(B*Mod(1,3)))==P,equal++,print(\"pair {index} of seed {seed} differs: {m} by {l} times {l} by {n}\"));");
+        println!(
+            "if(lift((A*Mod(1,3))*(B*Mod(1,3)))==P,equal++,print(\"pair {index} of seed {seed} differs: {m} by {l} times {l} by {n}\"));"
+        );
     }
-    println!("print(equal,\" of {count} products of multiply, 1 to 128 rows and columns, equal those of PARI/GP \",version(),\" modulo 3\");");
+    println!(
+        "print(equal,\" of {count} products of multiply, 1 to 128 rows and columns, equal those of PARI/GP \",version(),\" modulo 3\");"
+    );
     println!("quit(equal!={count});");
 }

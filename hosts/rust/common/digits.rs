@@ -12,11 +12,7 @@ pub struct Digits {
 
 impl Digits {
     pub fn zero(rows: usize, columns: usize) -> Digits {
-        Digits {
-            rows,
-            columns,
-            cells: vec![0; rows * columns],
-        }
+        Digits { rows, columns, cells: vec![0; rows * columns] }
     }
 
     /// Random digits in one of four styles: uniform, sparse, all 2, all 0.
@@ -137,11 +133,7 @@ pub fn list(a: &Digits, width: usize) -> Vec<Step> {
             while x >> bit & 1 == 0 {
                 bit += 1;
             }
-            steps.push(Step::Table {
-                row: x,
-                from: x - (1 << bit),
-                of_b: first + bit,
-            });
+            steps.push(Step::Table { row: x, from: x - (1 << bit), of_b: first + bit });
         }
         for i in 0..a.rows {
             let mut p = 0;

@@ -11,15 +11,7 @@ pub enum Name {
     Turn,
 }
 
-pub const NAMES: [Name; 7] = [
-    Name::Check,
-    Name::Sum,
-    Name::Difference,
-    Name::Negation,
-    Name::Product,
-    Name::Open,
-    Name::Turn,
-];
+pub const NAMES: [Name; 7] = [Name::Check, Name::Sum, Name::Difference, Name::Negation, Name::Product, Name::Open, Name::Turn];
 
 impl Name {
     pub fn text(self) -> &'static str {
@@ -71,10 +63,7 @@ pub struct Written {
 }
 
 pub fn words(bytes: &[u8]) -> Vec<u64> {
-    bytes
-        .chunks_exact(8)
-        .map(|chunk| chunk.iter().rev().fold(0, |word, byte| word << 8 | *byte as u64))
-        .collect()
+    bytes.chunks_exact(8).map(|chunk| chunk.iter().rev().fold(0, |word, byte| word << 8 | *byte as u64)).collect()
 }
 
 pub fn bytes(words: &[u64]) -> Vec<u8> {

@@ -67,13 +67,7 @@ fn whole_job(random: &mut Random, place: &str, counts: &mut Counts) {
     let size = |size: (u64, u64)| (size.0 as usize, size.1 as usize);
     let ((m, l), (_, n)) = (size(opening.a_size), size(opening.b_size));
     let (a, b) = (Digits::of_words(m, l, &words(&opening.a)), Digits::of_words(l, n, &words(&opening.b)));
-    let mut turn = Call {
-        name: Name::Turn,
-        record: opened.left.record,
-        table: opened.left.table,
-        product: opened.left.product,
-        ..opening
-    };
+    let mut turn = Call { name: Name::Turn, record: opened.left.record, table: opened.left.table, product: opened.left.product, ..opening };
     let total = list(&a, words(&turn.record)[3] as usize).len() as u64;
     let mut sold = 0;
     let mut after_end = 0;
@@ -136,12 +130,8 @@ fn summary(counts: &Counts) -> i32 {
     for name in NAMES {
         let met = |number: &u8| counts.numbers.get(&(name as usize, *number)).copied().unwrap_or(0);
         let listed: Vec<String> = name.numbers().iter().map(|number| format!("{number}: {}", met(number))).collect();
-        let pairs: Vec<String> = counts
-            .pairs
-            .iter()
-            .filter(|pair| pair.0 == name as usize)
-            .map(|(_, first, second)| format!("{first}<{second}"))
-            .collect();
+        let pairs: Vec<String> =
+            counts.pairs.iter().filter(|pair| pair.0 == name as usize).map(|(_, first, second)| format!("{first}<{second}")).collect();
         println!("{:<10} {}", name.text(), listed.join(", "));
         println!("           two at once: {}", pairs.join(" "));
         never.extend(name.numbers().iter().filter(|number| met(number) == 0).map(|number| format!("{} {number}", name.text())));

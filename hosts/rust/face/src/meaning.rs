@@ -90,12 +90,7 @@ impl Buffer<'_> {
 }
 
 fn buffers<'a>(call: &'a Call, counts: &[u64], width: u64) -> Vec<Buffer<'a>> {
-    let buffer = |bytes, rows, columns, read| Buffer {
-        bytes,
-        rows,
-        columns,
-        read,
-    };
+    let buffer = |bytes, rows, columns, read| Buffer { bytes, rows, columns, read };
     let a = |bytes, read| buffer(bytes, counts[0], counts[1], read);
     // A width out of range has no table: no length of it is wrong.
     let table_rows = if (1..=8).contains(&width) { 1 << width } else { u64::MAX };
@@ -120,11 +115,7 @@ fn buffers<'a>(call: &'a Call, counts: &[u64], width: u64) -> Vec<Buffer<'a>> {
 
 /// What an accepted call leaves.
 pub fn done(call: &Call) -> Written {
-    let mut left = Written {
-        record: call.record.clone(),
-        table: call.table.clone(),
-        product: call.product.clone(),
-    };
+    let mut left = Written { record: call.record.clone(), table: call.table.clone(), product: call.product.clone() };
     let digits = |size: (u64, u64), buffer: &[u8]| Digits::of_words(size.0 as usize, size.1 as usize, &words(buffer));
     match call.name {
         Name::Check => {}

@@ -21,12 +21,7 @@ impl Guarded {
         let mut all: Vec<u8> = (0..start).map(|_| random.word() as u8).collect();
         all.extend(held);
         all.extend((0..GUARD).map(|_| random.word() as u8));
-        Guarded {
-            before: all.clone(),
-            all,
-            start,
-            length: held.len(),
-        }
+        Guarded { before: all.clone(), all, start, length: held.len() }
     }
 
     fn part(&mut self) -> &mut [u8] {
@@ -54,11 +49,7 @@ pub fn carry_out(random: &mut Random, call: &Call) -> Trial {
     let left = if wanted == 0 {
         done(call)
     } else {
-        Written {
-            record: call.record.clone(),
-            table: call.table.clone(),
-            product: call.product.clone(),
-        }
+        Written { record: call.record.clone(), table: call.table.clone(), product: call.product.clone() }
     };
     let mut record = Guarded::new(random, &call.record);
     let mut a = Guarded::new(random, &call.a);
@@ -76,11 +67,7 @@ pub fn carry_out(random: &mut Random, call: &Call) -> Trial {
             Name::Negation => library::negation(x, a, product.part()),
             Name::Product => library::product(x, y, a, b, product.part()),
             Name::Open | Name::Turn => {
-                let job = Job {
-                    record: record.part(),
-                    table: table.part(),
-                    product: product.part(),
-                };
+                let job = Job { record: record.part(), table: table.part(), product: product.part() };
                 if call.name == Name::Open {
                     library::open(x, y, call.width, a, b, job)
                 } else {

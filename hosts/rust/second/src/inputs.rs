@@ -53,11 +53,7 @@ struct Part {
 impl Part {
     fn random(random: &mut Random, rows: usize, columns: usize) -> Part {
         let digits = Digits::random(random, rows, columns);
-        Part {
-            rows,
-            columns,
-            words: digits.words(),
-        }
+        Part { rows, columns, words: digits.words() }
     }
 
     /// Column `j` of row `i` gets these bits.
@@ -135,12 +131,7 @@ struct Text {
 
 impl Text {
     fn input(&self, kind: String, meant: Option<u8>) -> Input {
-        Input {
-            kind,
-            bytes: self.lines.concat(),
-            endless: None,
-            meant,
-        }
+        Input { kind, bytes: self.lines.concat(), endless: None, meant }
     }
 
     fn header(&mut self, side: Side) -> &mut Vec<u8> {
@@ -165,9 +156,8 @@ fn side(random: &mut Random) -> Side {
 }
 
 /// Bytes that are no digits of document 01, and some that other readers take for digits.
-const NO_DIGIT: [u8; 20] = [
-    b'g', b'G', b'/', b':', b'`', b'@', b' ', b'\t', 0, 255, 0x80, b'-', b'+', b'x', b'_', b'\r', 11, 0xb2, b'A' + 128, b'0' + 128,
-];
+const NO_DIGIT: [u8; 20] =
+    [b'g', b'G', b'/', b':', b'`', b'@', b' ', b'\t', 0, 255, 0x80, b'-', b'+', b'x', b'_', b'\r', 11, 0xb2, b'A' + 128, b'0' + 128];
 
 const BAD_LINES: usize = 11;
 
@@ -465,12 +455,7 @@ fn small(random: &mut Random) -> Input {
         (b"00000000\nFFFFFFFF\n", 10),
         (b"\xef\xbb\xbf00000000\n00000000\n", 10),
     ]);
-    Input {
-        kind: "a few bytes".to_string(),
-        bytes: bytes.to_vec(),
-        endless: None,
-        meant: Some(meant),
-    }
+    Input { kind: "a few bytes".to_string(), bytes: bytes.to_vec(), endless: None, meant: Some(meant) }
 }
 
 /// Input far longer than the form allows, or endless.

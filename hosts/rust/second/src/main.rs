@@ -126,13 +126,7 @@ fn compare(options: &Options, index: u64) -> Outcome {
         let _ = fs::remove_file(&file);
         None
     } else {
-        Some(format!(
-            "seed {} index {index} ({}), input in {}\n{}",
-            options.seed,
-            input.kind,
-            file.display(),
-            found.join("\n")
-        ))
+        Some(format!("seed {} index {index} ({}), input in {}\n{}", options.seed, input.kind, file.display(), found.join("\n")))
     };
     Outcome { answer, difference }
 }

@@ -52,10 +52,7 @@ pub fn run(words: &[String], input: &Input, file: &Path, random: &mut Random) ->
     };
     child.kill()?;
     child.wait()?;
-    Ok(Ran {
-        output: Vec::new(),
-        ended: Some(format!("killed: no end after {} s ({late})", PATIENCE.as_secs())),
-    })
+    Ok(Ran { output: Vec::new(), ended: Some(format!("killed: no end after {} s ({late})", PATIENCE.as_secs())) })
 }
 
 /// Writes until the program stops reading: then the pipe is broken, which is no fault.
