@@ -94,8 +94,27 @@ build_rust() {
     fi
 }
 
-# The archive, proved and made unless NYUZOLAMBA_ARCHIVE names one.
+# up_to_date FILE: it is there, and no source of the crates is newer.
+up_to_date() { [ -f "$1" ] && [ -z "$(find "$root/crates" -name '*.rt' -newer "$1" -print -quit)" ]; }
+
+# Proves the C face and makes its archive, unless NYUZOLAMBA_ARCHIVE names one.
 make_archive() {
     [ -n "${NYUZOLAMBA_ARCHIVE:-}" ] && return 0
     (cd "$root" && rt staticlib cface) >"$out/staticlib.log" 2>&1 || { tail -n 20 "$out/staticlib.log" >&2; return 1; }
+}
+have_archive() { up_to_date "$archive" || make_archive; }
+
+# Proves the program multiply and makes it, unless NYUZOLAMBA_PROGRAM names one (with the words before it).
+make_program() {
+    [ -n "${NYUZOLAMBA_PROGRAM:-}" ] && return 0
+    (cd "$root" && rt check multiply) >"$out/program.log" 2>&1 || { tail -n 20 "$out/program.log" >&2; return 1; }
+}
+
+# The words that run multiply; it is made if it is not there.
+program_words() {
+    local runner
+    [ -n "${NYUZOLAMBA_PROGRAM:-}" ] && { echo "$NYUZOLAMBA_PROGRAM"; return; }
+    up_to_date "$root/target/bin/multiply" || make_program || return 1
+    runner=$(program_runner) || return 1
+    echo "$runner $root/target/bin/multiply"
 }
