@@ -104,17 +104,3 @@ pub fn lines(rows: usize, columns: usize, words: &[u64]) -> Vec<Vec<u8>> {
     }
     lines
 }
-
-#[cfg(test)]
-mod tests {
-    use super::answer;
-
-    /// Document 01's own input and output.
-    #[test]
-    fn the_example() {
-        let input = "00020003\n00000000000000030000000000000002\n00000000000000060000000000000002\n00030002\n\
-            00000000000000010000000000000000\n00000000000000030000000000000001\n00000000000000030000000000000000\n";
-        let output = "00020002\n00000000000000030000000000000003\n00000000000000010000000000000001\n0000000b\n";
-        assert_eq!(answer(input.as_bytes()), output.as_bytes());
-    }
-}

@@ -3,6 +3,7 @@
 //! walk of the list of row steps.
 //!
 //!     second --program PATH [--runner 'WORDS'] [--count N] [--seed S] [--only INDEX] [--jobs J] [--keep FOLDER]
+//!     second --judge      prints what multiply has to print for standard input, so that the samples judge this program too
 //!
 //! An input that makes a difference stays in the folder; the exit status is then 1.
 
@@ -18,6 +19,7 @@ mod running;
 use random::Random;
 use std::collections::BTreeMap;
 use std::fs;
+use std::io::{stdin, stdout, Read, Write};
 use std::path::PathBuf;
 use std::process::exit;
 use std::sync::atomic::{AtomicU64, Ordering};
@@ -131,7 +133,17 @@ fn compare(options: &Options, index: u64) -> Outcome {
     Outcome { answer, difference }
 }
 
+/// Prints what multiply has to print for standard input.
+fn judge() -> std::io::Result<()> {
+    let mut input = Vec::new();
+    stdin().read_to_end(&mut input)?;
+    stdout().write_all(&frame::answer(&input))
+}
+
 fn main() {
+    if std::env::args().skip(1).eq(["--judge".to_string()]) {
+        exit(judge().is_err() as i32);
+    }
     let options = options();
     let (first, end) = match options.only {
         Some(index) => (index, index + 1),
