@@ -1,0 +1,279 @@
+#define _POSIX_C_SOURCE 200809L
+#include "job.h"
+
+#include "nyuzolamba.h"
+
+#include <errno.h>
+#include <fcntl.h>
+#include <stdarg.h>
+#include <stdio.h>
+#include <stdlib.h>
+#include <string.h>
+#include <unistd.h>
+
+enum { GUARD = 32, ROOM = 4096 };
+static const char MAGIC[8] = "nyzjob1\n";
+
+void fail(const char *format, ...)
+{
+    va_list values;
+    va_start(values, format);
+    fputs("store: ", stderr);
+    vfprintf(stderr, format, values);
+    fputc('\n', stderr);
+    va_end(values);
+    exit(1);
+}
+
+/* ---- buffers */
+
+static uint8_t guard_byte(size_t i)
+{
+    return (uint8_t)(0xa5u ^ i * 29);
+}
+
+static struct buffer buffer_new(size_t bytes)
+{
+    struct buffer made;
+    uint8_t *all = malloc(GUARD + bytes + GUARD);
+    size_t i;
+    if (all == NULL)
+        fail("no memory");
+    for (i = 0; i < GUARD; i++) {
+        all[i] = guard_byte(i);
+        all[GUARD + bytes + i] = guard_byte(i + 7);
+    }
+    memset(all + GUARD, 0xee, bytes);
+    made.start = all + GUARD;
+    made.bytes = bytes;
+    return made;
+}
+
+static int guards_stand(const struct buffer *b)
+{
+    size_t i;
+    for (i = 0; i < GUARD; i++)
+        if (b->start[i - GUARD] != guard_byte(i) || b->start[b->bytes + i] != guard_byte(i + 7))
+            return 0;
+    return 1;
+}
+
+/* After every call: the guards stand, and A and B are what they were. */
+static void look(const struct job *job, const uint8_t *a, const uint8_t *b)
+{
+    int i;
+    for (i = 0; i < BUFFERS; i++)
+        if (!guards_stand(&job->buffer[i]))
+            fail("site %llu: a byte beside buffer %d was written", (unsigned long long)job->site, i);
+    if (memcmp(a, job->buffer[A].start, job->buffer[A].bytes) != 0 || memcmp(b, job->buffer[B].start, job->buffer[B].bytes) != 0)
+        fail("site %llu: A or B was written", (unsigned long long)job->site);
+}
+
+void job_free(struct job *job)
+{
+    int i;
+    for (i = 0; i < BUFFERS; i++)
+        free(job->buffer[i].start - GUARD);
+}
+
+/* ---- requests, openings, turns */
+
+void site_request(uint64_t seed, uint64_t site, struct digits *a, struct digits *b, unsigned *width)
+{
+    unsigned size[3], i;
+    for (i = 0; i < 3; i++) {
+        uint64_t r = scramble(seed, 1000 + i, site);
+        /* Many of the largest, some of none. */
+        size[i] = r % 4 == 0 ? MOST : r % 16 == 1 ? 0 : (unsigned)(r / 16 % (MOST + 1));
+    }
+    *width = (unsigned)(scramble(seed, 1003, site) % 9);
+    own_random(a, size[0], size[1], scramble(seed, 1004, site));
+    own_random(b, size[1], size[2], scramble(seed, 1005, site));
+}
+
+void job_open(struct job *job, uint64_t seed, uint64_t site)
+{
+    struct digits a, b;
+    struct buffer *at = job->buffer;
+    uint8_t copy[2][MOST * 16];
+    unsigned width;
+    uint64_t number;
+    site_request(seed, site, &a, &b, &width);
+    memset(job, 0, sizeof *job);
+    job->site = site;
+    at[RECORD] = buffer_new(NYUZOLAMBA_RECORD_BYTES);
+    at[A] = buffer_new(nyuzolamba_bytes(a.rows, a.columns));
+    at[B] = buffer_new(nyuzolamba_bytes(b.rows, b.columns));
+    at[TABLE] = buffer_new(nyuzolamba_table_bytes(width, b.columns));
+    at[PRODUCT] = buffer_new(nyuzolamba_bytes(a.rows, b.columns));
+    own_pack(&a, at[A].start);
+    own_pack(&b, at[B].start);
+    memcpy(copy[0], at[A].start, at[A].bytes);
+    memcpy(copy[1], at[B].start, at[B].bytes);
+    number = nyuzolamba_check(a.rows, a.columns, at[A].start, at[A].bytes);
+    if (number == NYUZOLAMBA_DONE)
+        number = nyuzolamba_check(b.rows, b.columns, at[B].start, at[B].bytes);
+    if (number == NYUZOLAMBA_DONE)
+        number = nyuzolamba_open(a.rows, a.columns, b.rows, b.columns, width, at[RECORD].start, at[RECORD].bytes, at[A].start, at[A].bytes,
+                                 at[B].start, at[B].bytes, at[TABLE].start, at[TABLE].bytes, at[PRODUCT].start, at[PRODUCT].bytes);
+    if (number != NYUZOLAMBA_DONE)
+        fail("site %llu: not opened, number %llu", (unsigned long long)site, (unsigned long long)number);
+    look(job, copy[0], copy[1]);
+}
+
+void job_turn(struct job *job, uint32_t budget)
+{
+    struct buffer *at = job->buffer;
+    uint8_t copy[2][MOST * 16];
+    uint64_t before = job_steps(job), number;
+    memcpy(copy[0], at[A].start, at[A].bytes);
+    memcpy(copy[1], at[B].start, at[B].bytes);
+    number = nyuzolamba_turn(at[RECORD].start, at[RECORD].bytes, at[A].start, at[A].bytes, at[B].start, at[B].bytes, at[TABLE].start,
+                             at[TABLE].bytes, at[PRODUCT].start, at[PRODUCT].bytes, budget);
+    if (number != NYUZOLAMBA_DONE)
+        fail("site %llu: a turn was refused with %llu", (unsigned long long)job->site, (unsigned long long)number);
+    look(job, copy[0], copy[1]);
+    job->turns++;
+    job->sold = nyuzolamba_word(at[RECORD].start, NYUZOLAMBA_STEPS_MADE);
+    if (job->sold > budget || before + job->sold != job_steps(job) || (job->sold < budget && !job_ended(job)))
+        fail("site %llu: the record does not say what the turn made", (unsigned long long)job->site);
+}
+
+uint64_t job_steps(const struct job *job)
+{
+    return nyuzolamba_word(job->buffer[RECORD].start, NYUZOLAMBA_STEPS_DONE);
+}
+
+int job_ended(const struct job *job)
+{
+    return nyuzolamba_word(job->buffer[RECORD].start, NYUZOLAMBA_ENDED) == 1;
+}
+
+int job_right(const struct job *job, uint64_t seed)
+{
+    struct digits a, b, product;
+    uint8_t bytes[MOST * 16];
+    unsigned width;
+    site_request(seed, job->site, &a, &b, &width);
+    own_product(&a, &b, &product);
+    own_pack(&product, bytes);
+    return job->buffer[PRODUCT].bytes == nyuzolamba_bytes(a.rows, b.columns) &&
+           memcmp(bytes, job->buffer[PRODUCT].start, job->buffer[PRODUCT].bytes) == 0;
+}
+
+uint64_t job_total(const struct job *job, uint64_t seed)
+{
+    struct digits a, b;
+    unsigned width;
+    site_request(seed, job->site, &a, &b, &width);
+    return own_total(&a, width == 0 ? NYUZOLAMBA_WIDTH_DEFAULT : width);
+}
+
+/* ---- the job's file: words and buffers, then a check sum over all of it */
+
+void path_of(char *path, size_t room, const char *folder, const char *format, ...)
+{
+    va_list values;
+    size_t used = (size_t)snprintf(path, room, "%s/", folder);
+    if (used >= room)
+        fail("the folder's name is too long");
+    va_start(values, format);
+    if ((size_t)vsnprintf(path + used, room - used, format, values) >= room - used)
+        fail("the folder's name is too long");
+    va_end(values);
+}
+
+void sync_folder(const char *folder)
+{
+    int fd = open(folder, O_RDONLY);
+    if (fd < 0 || fsync(fd) != 0 || close(fd) != 0)
+        fail("%s: %s", folder, strerror(errno));
+}
+
+static uint64_t check_sum(const uint8_t *bytes, size_t count)
+{
+    uint64_t sum = 0xcbf29ce484222325u;
+    size_t i;
+    for (i = 0; i < count; i++)
+        sum = (sum ^ bytes[i]) * 0x100000001b3u;
+    return sum;
+}
+
+enum { HEAD = 8 + 4 * 8 + 8 * BUFFERS };
+
+void job_save(const struct job *job, const char *folder)
+{
+    char path[ROOM], beside[ROOM];
+    size_t size = HEAD, at = HEAD, done = 0;
+    uint8_t *bytes;
+    int fd, i;
+    for (i = 0; i < BUFFERS; i++)
+        size += job->buffer[i].bytes;
+    bytes = malloc(size + 8);
+    if (bytes == NULL)
+        fail("no memory");
+    memcpy(bytes, MAGIC, 8);
+    nyuzolamba_set_word(bytes, 1, job->site);
+    nyuzolamba_set_word(bytes, 2, job->turns);
+    nyuzolamba_set_word(bytes, 3, job->sold);
+    nyuzolamba_set_word(bytes, 4, job->finished);
+    for (i = 0; i < BUFFERS; i++) {
+        nyuzolamba_set_word(bytes, 5 + (size_t)i, job->buffer[i].bytes);
+        memcpy(bytes + at, job->buffer[i].start, job->buffer[i].bytes);
+        at += job->buffer[i].bytes;
+    }
+    nyuzolamba_set_word(bytes + size, 0, check_sum(bytes, size));
+    path_of(path, sizeof path, folder, "site-%llu.job", (unsigned long long)job->site);
+    path_of(beside, sizeof beside, folder, "site-%llu.new", (unsigned long long)job->site);
+    fd = open(beside, O_WRONLY | O_CREAT | O_TRUNC, 0644);
+    if (fd < 0)
+        fail("%s: %s", beside, strerror(errno));
+    while (done < size + 8) {
+        ssize_t wrote = write(fd, bytes + done, size + 8 - done);
+        if (wrote < 0 && errno != EINTR)
+            fail("%s: %s", beside, strerror(errno));
+        if (wrote > 0)
+            done += (size_t)wrote;
+    }
+    if (fsync(fd) != 0 || close(fd) != 0 || rename(beside, path) != 0)
+        fail("%s: %s", beside, strerror(errno));
+    sync_folder(folder);
+    free(bytes);
+}
+
+int job_load(struct job *job, const char *folder, uint64_t site)
+{
+    char path[ROOM];
+    uint8_t bytes[HEAD + 56 + 3 * MOST * 16 + 256 * 16 + 8];
+    size_t size, at = HEAD;
+    FILE *file;
+    int i;
+    path_of(path, sizeof path, folder, "site-%llu.job", (unsigned long long)site);
+    file = fopen(path, "rb");
+    if (file == NULL) {
+        if (errno != ENOENT)
+            fail("%s: %s", path, strerror(errno));
+        return 0;
+    }
+    size = fread(bytes, 1, sizeof bytes, file);
+    if (ferror(file) || fclose(file) != 0)
+        fail("%s: not read", path);
+    if (size < HEAD + 8 || memcmp(bytes, MAGIC, 8) != 0 || nyuzolamba_word(bytes + size - 8, 0) != check_sum(bytes, size - 8))
+        fail("%s: not whole", path);
+    memset(job, 0, sizeof *job);
+    job->site = nyuzolamba_word(bytes, 1);
+    job->turns = nyuzolamba_word(bytes, 2);
+    job->sold = nyuzolamba_word(bytes, 3);
+    job->finished = nyuzolamba_word(bytes, 4);
+    for (i = 0; i < BUFFERS; i++) {
+        uint64_t part = nyuzolamba_word(bytes, 5 + (size_t)i);
+        if (part > size - 8 - at)
+            fail("%s: not whole", path);
+        job->buffer[i] = buffer_new((size_t)part);
+        memcpy(job->buffer[i].start, bytes + at, (size_t)part);
+        at += (size_t)part;
+    }
+    if (at != size - 8 || job->site != site)
+        fail("%s: not whole", path);
+    return 1;
+}

@@ -1,0 +1,120 @@
+# Shared by the scripts of hosts/: where things are, what must be installed, how compiled Rattle is run on this machine. Sourced by bash.
+export LC_ALL=C
+hosts=$(cd "$(dirname "${BASH_SOURCE[0]}")" && pwd)
+root=$(dirname "$hosts")
+out=$root/target/hosts
+machine=$(uname -m)
+mkdir -p "$out"
+
+# need PACKAGE..: installs those of them that Debian does not have installed yet.
+need() {
+    local package missing=() sudo=
+    for package in "$@"; do
+        dpkg-query -W -f '${Status}\n' "$package" 2>/dev/null | grep -q ' installed$' || missing+=("$package")
+    done
+    [ ${#missing[@]} -gt 0 ] || return 0
+    [ "$(id -u)" = 0 ] || sudo=sudo
+    echo "installing ${missing[*]}" >&2
+    {
+        case "${missing[*]}" in *:amd64*) $sudo dpkg --add-architecture amd64 ;; esac
+        $sudo apt-get update && $sudo env DEBIAN_FRONTEND=noninteractive apt-get install -y --no-install-recommends "${missing[@]}"
+    } >"$out/install.log" 2>&1 || {
+        tail -n 5 "$out/install.log" >&2
+        echo "these packages are needed: ${missing[*]}" >&2
+        return 1
+    }
+}
+
+# The words before a program that rt built: none on x86-64; elsewhere the kit's emulator, loader and C library, as rt itself runs it.
+program_runner() {
+    [ "$machine" = x86_64 ] && return 0
+    local rt kit tools
+    rt=$(command -v rt) || { echo 'rt, the command of the Rattle kit, is not on the PATH' >&2; return 1; }
+    kit=${RATTLE_HOME:-$(dirname "$(dirname "$(readlink -f "$rt")")")}
+    tools=$kit/on/$machine/toolchain
+    [ -x "$tools/bin/qemu-x86_64" ] || { echo "the kit has no emulator at $tools" >&2; return 1; }
+    echo "$tools/bin/qemu-x86_64 $tools/lib/ld-linux-x86-64.so.2 --library-path $tools/lib"
+}
+
+# A Rust compiler for programs of this machine: the one at hand, else Debian's.
+native_rustc() {
+    command -v rustc && return 0
+    need rustc gcc libc6-dev && command -v rustc
+}
+
+# ---- hosts that link the archive of the C face, which is for x86-64
+# Programs are cross-built on another machine and run under Debian's emulator.
+archive=${NYUZOLAMBA_ARCHIVE:-$root/target/staticlib/libcface.a}
+
+# Sets cc and host_runner (words before a host program), and installs what they need.
+c_host() {
+    if [ "$machine" = x86_64 ]; then
+        need gcc libc6-dev || return 1
+        cc=gcc host_runner=
+    else
+        need gcc-x86-64-linux-gnu libc6-dev-amd64-cross qemu-user || return 1
+        cc=x86_64-linux-gnu-gcc host_runner=/usr/bin/qemu-x86_64
+    fi
+}
+
+# The library allocates nothing: leaks would be the host's own, and looking for them fails in some containers.
+export ASAN_OPTIONS=${ASAN_OPTIONS:-detect_leaks=0}
+
+# build_c NAME SOURCE..: a C host with the archive. On x86-64 the sanitizers watch it; elsewhere it is linked statically, for the emulator.
+build_c() {
+    local more=-static
+    [ "$machine" = x86_64 ] && more='-fsanitize=address,undefined -fno-sanitize-recover=all'
+    compile_c "$more" "$@"
+}
+
+# The same without the sanitizers: their start takes seconds on some machines.
+build_c_plain() { compile_c -static "$@"; }
+
+compile_c() { # FLAGS NAME SOURCE..
+    local more=$1 name=$2
+    shift 2
+    # shellcheck disable=SC2086
+    $cc -std=c99 -O2 -g -Wall -Wextra -pedantic -Werror $more -I "$root/include" -o "$out/$name" "$@" "$archive"
+}
+
+# build_rust NAME SOURCE: a Rust host with the archive.
+build_rust() {
+    local flags folder
+    folder=$out/link
+    mkdir -p "$folder" && cp "$archive" "$folder/libnyuzolamba.a" || return 1
+    if [ "$machine" = x86_64 ]; then
+        local rustc
+        rustc=$(native_rustc) || return 1
+        "$rustc" --edition 2021 -O -o "$out/$1" "$2" -L "native=$folder" -l static=nyuzolamba
+    else
+        # The compiler at hand has no library for x86-64; Debian's has.
+        need rustc libstd-rust-dev:amd64 || return 1
+        /usr/bin/rustc --edition 2021 -O --target x86_64-unknown-linux-gnu -C linker=x86_64-linux-gnu-gcc \
+            -o "$out/$1" "$2" -L "native=$folder" -l static=nyuzolamba
+    fi
+}
+
+# up_to_date FILE: it is there, and no source of the crates is newer.
+up_to_date() { [ -f "$1" ] && [ -z "$(find "$root/crates" -name '*.rt' -newer "$1" -print -quit)" ]; }
+
+# Proves the C face and makes its archive, unless NYUZOLAMBA_ARCHIVE names one.
+make_archive() {
+    [ -n "${NYUZOLAMBA_ARCHIVE:-}" ] && return 0
+    (cd "$root" && rt staticlib cface) >"$out/staticlib.log" 2>&1 || { tail -n 20 "$out/staticlib.log" >&2; return 1; }
+}
+have_archive() { up_to_date "$archive" || make_archive; }
+
+# Proves the program multiply and makes it, unless NYUZOLAMBA_PROGRAM names one (with the words before it).
+make_program() {
+    [ -n "${NYUZOLAMBA_PROGRAM:-}" ] && return 0
+    (cd "$root" && rt check multiply) >"$out/program.log" 2>&1 || { tail -n 20 "$out/program.log" >&2; return 1; }
+}
+
+# The words that run multiply; it is made if it is not there.
+program_words() {
+    local runner
+    [ -n "${NYUZOLAMBA_PROGRAM:-}" ] && { echo "$NYUZOLAMBA_PROGRAM"; return; }
+    up_to_date "$root/target/bin/multiply" || make_program || return 1
+    runner=$(program_runner) || return 1
+    echo "$runner $root/target/bin/multiply"
+}

@@ -1,0 +1,158 @@
+//! Matrices of digits, one byte a digit, and what document 01 says of them, written out as plainly as can be. Nothing here knows how the
+//! library does it: the product is the schoolbook one, and a buffer is judged bit by bit.
+
+use crate::random::Random;
+
+#[derive(Clone, PartialEq, Debug)]
+pub struct Digits {
+    pub rows: usize,
+    pub columns: usize,
+    pub cells: Vec<u8>,
+}
+
+impl Digits {
+    pub fn zero(rows: usize, columns: usize) -> Digits {
+        Digits { rows, columns, cells: vec![0; rows * columns] }
+    }
+
+    /// Random digits in one of four styles: uniform, sparse, all 2, all 0.
+    pub fn random(random: &mut Random, rows: usize, columns: usize) -> Digits {
+        let mut made = Digits::zero(rows, columns);
+        let style = random.below(8);
+        for cell in made.cells.iter_mut() {
+            *cell = match style {
+                0 => 0,
+                1 => 2,
+                2 | 3 => {
+                    if random.once_in(16) {
+                        1 + random.below(2) as u8
+                    } else {
+                        0
+                    }
+                }
+                _ => random.below(3) as u8,
+            };
+        }
+        made
+    }
+
+    pub fn at(&self, i: usize, j: usize) -> u8 {
+        self.cells[i * self.columns + j]
+    }
+
+    /// The only legal buffer that holds these digits.
+    pub fn words(&self) -> Vec<u64> {
+        let q = words_of_plane(self.columns);
+        let mut words = vec![0; 2 * q * self.rows];
+        for i in 0..self.rows {
+            for j in 0..self.columns {
+                let digit = self.at(i, j);
+                if digit != 0 {
+                    words[i * 2 * q + j / 64] |= 1 << (j % 64);
+                }
+                if digit == 2 {
+                    words[i * 2 * q + q + j / 64] |= 1 << (j % 64);
+                }
+            }
+        }
+        words
+    }
+
+    /// The digits that a legal buffer holds.
+    pub fn of_words(rows: usize, columns: usize, words: &[u64]) -> Digits {
+        let q = words_of_plane(columns);
+        let mut made = Digits::zero(rows, columns);
+        for i in 0..rows {
+            for j in 0..columns {
+                let unit = words[i * 2 * q + j / 64] >> (j % 64) & 1;
+                let sign = words[i * 2 * q + q + j / 64] >> (j % 64) & 1;
+                made.cells[i * columns + j] = (unit + sign) as u8;
+            }
+        }
+        made
+    }
+}
+
+/// The words of one plane of a row.
+pub fn words_of_plane(columns: usize) -> usize {
+    columns / 64 + if columns % 64 == 0 { 0 } else { 1 }
+}
+
+/// Whether a real column holds sign without unit, and whether a padding bit is set.
+pub fn faults(rows: usize, columns: usize, words: &[u64]) -> (bool, bool) {
+    let q = words_of_plane(columns);
+    let mut stray = false;
+    let mut padded = false;
+    for i in 0..rows {
+        for j in 0..64 * q {
+            let unit = words[i * 2 * q + j / 64] >> (j % 64) & 1 == 1;
+            let sign = words[i * 2 * q + q + j / 64] >> (j % 64) & 1 == 1;
+            if j < columns {
+                stray |= sign && !unit;
+            } else {
+                padded |= sign || unit;
+            }
+        }
+    }
+    (stray, padded)
+}
+
+pub fn product(a: &Digits, b: &Digits) -> Digits {
+    let mut made = Digits::zero(a.rows, b.columns);
+    for i in 0..a.rows {
+        for j in 0..b.columns {
+            let mut sum = 0u32;
+            for t in 0..a.columns {
+                sum += a.at(i, t) as u32 * b.at(t, j) as u32;
+            }
+            made.cells[i * b.columns + j] = (sum % 3) as u8;
+        }
+    }
+    made
+}
+
+/// One entry of the list of row steps.
+#[derive(Clone, Copy, PartialEq, Debug)]
+pub enum Step {
+    /// table row `row` becomes table row `from` plus row `of_b` of B
+    Table { row: usize, from: usize, of_b: usize },
+    /// table row `from` is added to row `row` of the product
+    Add { row: usize, from: usize },
+    /// table row `from` is subtracted from row `row` of the product
+    Subtract { row: usize, from: usize },
+}
+
+/// The list of row steps, walked as document 01 writes it, one entry after the other.
+pub fn list(a: &Digits, width: usize) -> Vec<Step> {
+    let mut steps = Vec::new();
+    let mut first = 0;
+    while first < a.columns {
+        let w = if a.columns - first < width { a.columns - first } else { width };
+        for x in 1..1usize << w {
+            let mut bit = 0;
+            while x >> bit & 1 == 0 {
+                bit += 1;
+            }
+            steps.push(Step::Table { row: x, from: x - (1 << bit), of_b: first + bit });
+        }
+        for i in 0..a.rows {
+            let mut p = 0;
+            let mut n = 0;
+            for t in 0..w {
+                match a.at(i, first + t) {
+                    1 => p += 1 << t,
+                    2 => n += 1 << t,
+                    _ => {}
+                }
+            }
+            if p != 0 {
+                steps.push(Step::Add { row: i, from: p });
+            }
+            if n != 0 {
+                steps.push(Step::Subtract { row: i, from: n });
+            }
+        }
+        first += w;
+    }
+    steps
+}

@@ -1,0 +1,77 @@
+//! One call with all that is handed in.
+
+#[derive(Clone, Copy, PartialEq, Debug)]
+pub enum Name {
+    Check,
+    Sum,
+    Difference,
+    Negation,
+    Product,
+    Open,
+    Turn,
+}
+
+pub const NAMES: [Name; 7] = [Name::Check, Name::Sum, Name::Difference, Name::Negation, Name::Product, Name::Open, Name::Turn];
+
+impl Name {
+    pub fn text(self) -> &'static str {
+        ["check", "sum", "difference", "negation", "product", "open", "turn"][self as usize]
+    }
+
+    pub fn has_b(self) -> bool {
+        !matches!(self, Name::Check | Name::Negation)
+    }
+
+    pub fn is_job(self) -> bool {
+        matches!(self, Name::Open | Name::Turn)
+    }
+
+    /// The numbers that the call can give, by document 01.
+    pub fn numbers(self) -> &'static [u8] {
+        match self {
+            Name::Check | Name::Negation => &[0, 1, 4, 5, 6, 11],
+            Name::Sum | Name::Difference | Name::Product => &[0, 1, 2, 4, 5, 6, 11],
+            Name::Open => &[0, 1, 2, 3, 4, 5, 6, 11],
+            Name::Turn => &[0, 1, 3, 4, 5, 6, 7, 11],
+        }
+    }
+}
+
+/// Buffers that a call does not have are empty. `product` stands for every result. Sizes of a turn stand in its record.
+#[derive(Clone, Debug)]
+pub struct Call {
+    pub name: Name,
+    pub a_size: (u64, u64),
+    pub b_size: (u64, u64),
+    pub width: u64,
+    pub budget: u32,
+    pub record: Vec<u8>,
+    pub a: Vec<u8>,
+    pub b: Vec<u8>,
+    pub table: Vec<u8>,
+    pub product: Vec<u8>,
+    /// A and B are one buffer in memory.
+    pub shared: bool,
+}
+
+/// What a call can write.
+#[derive(Clone, PartialEq, Debug)]
+pub struct Written {
+    pub record: Vec<u8>,
+    pub table: Vec<u8>,
+    pub product: Vec<u8>,
+}
+
+pub fn words(bytes: &[u8]) -> Vec<u64> {
+    bytes.chunks_exact(8).map(|chunk| chunk.iter().rev().fold(0, |word, byte| word << 8 | *byte as u64)).collect()
+}
+
+pub fn bytes(words: &[u64]) -> Vec<u8> {
+    let mut made = Vec::with_capacity(8 * words.len());
+    for word in words {
+        for place in 0..8 {
+            made.push((word >> (8 * place)) as u8);
+        }
+    }
+    made
+}

@@ -1,0 +1,178 @@
+//! What each call has to answer and to leave, by document 01, written without a look at the library: digits one by one, the schoolbook product, the
+//! list of row steps walked entry by entry.
+
+use crate::call::{bytes, words, Call, Name, Written};
+use crate::digits::{faults, list, product, words_of_plane, Digits, Step};
+
+/// Every number whose test holds, in document 01's order; the first is the answer, none means done. A test that needs an earlier one to have
+/// passed (a length needs sizes, cells need a length) is left out where it has not.
+pub fn numbers(call: &Call) -> Vec<u8> {
+    let mut found = Vec::new();
+    if call.name.is_job() && call.record.len() != 56 {
+        found.push(4);
+        if call.name == Name::Turn {
+            return found;
+        }
+    }
+    let record = words(&call.record);
+    let counts = match call.name {
+        Name::Check | Name::Negation => vec![call.a_size.0, call.a_size.1],
+        Name::Turn => record[0..3].to_vec(),
+        _ => vec![call.a_size.0, call.a_size.1, call.b_size.0, call.b_size.1],
+    };
+    let width = match call.name {
+        Name::Turn => record[3],
+        Name::Open if call.width == 0 => 4,
+        Name::Open => call.width,
+        _ => 4,
+    };
+    if counts.iter().any(|count| *count > 1024) {
+        found.push(1);
+    }
+    if counts.iter().any(|count| (65..=1024).contains(count)) {
+        found.push(11);
+    }
+    let fits = match call.name {
+        Name::Sum | Name::Difference => call.a_size == call.b_size,
+        Name::Product | Name::Open => call.a_size.1 == call.b_size.0,
+        _ => true,
+    };
+    if !fits {
+        found.push(2);
+    }
+    if width > 8 || width == 0 {
+        found.push(3);
+    }
+    let buffers = buffers(call, &counts, width);
+    if buffers.iter().any(|buffer| buffer.length().map_or(false, |length| length != buffer.bytes.len())) {
+        found.push(4);
+    }
+    for buffer in buffers.iter().filter(|buffer| buffer.read && buffer.fits()) {
+        let (stray, padded) = faults(buffer.rows as usize, buffer.columns as usize, &words(buffer.bytes));
+        if stray {
+            found.push(5);
+        }
+        if padded {
+            found.push(6);
+        }
+    }
+    // A cell of A with a stray sign is no digit: then there is no list to count.
+    if call.name == Name::Turn && (1..=8).contains(&width) && buffers[0].fits() {
+        let (rows, columns, a) = (buffers[0].rows as usize, buffers[0].columns as usize, words(&call.a));
+        let total = || list(&Digits::of_words(rows, columns, &a), width as usize).len() as u64;
+        if !faults(rows, columns, &a).0 && record[4] > total() {
+            found.push(7);
+        }
+    }
+    found
+}
+
+struct Buffer<'a> {
+    bytes: &'a [u8],
+    rows: u64,
+    columns: u64,
+    read: bool,
+}
+
+impl Buffer<'_> {
+    /// Its exact length; none for sizes that no buffer can have.
+    fn length(&self) -> Option<usize> {
+        if self.rows > 1024 || self.columns > 1024 {
+            return None;
+        }
+        Some(16 * words_of_plane(self.columns as usize) * self.rows as usize)
+    }
+
+    /// Whether its cells can be looked at. (Those of larger ones could be too, but it takes time, and a larger one is refused in any case.)
+    fn fits(&self) -> bool {
+        self.rows <= 256 && self.columns <= 64 && self.length() == Some(self.bytes.len())
+    }
+}
+
+fn buffers<'a>(call: &'a Call, counts: &[u64], width: u64) -> Vec<Buffer<'a>> {
+    let buffer = |bytes, rows, columns, read| Buffer { bytes, rows, columns, read };
+    let a = |bytes, read| buffer(bytes, counts[0], counts[1], read);
+    // A width out of range has no table: no length of it is wrong.
+    let table_rows = if (1..=8).contains(&width) { 1 << width } else { u64::MAX };
+    let last = *counts.last().unwrap();
+    match call.name {
+        Name::Check => vec![a(&call.a, true)],
+        Name::Negation => vec![a(&call.a, true), a(&call.product, false)],
+        Name::Sum | Name::Difference => vec![a(&call.a, true), buffer(&call.b, counts[2], last, true), a(&call.product, false)],
+        Name::Product => vec![a(&call.a, true), buffer(&call.b, counts[2], last, true), buffer(&call.product, counts[0], last, false)],
+        Name::Open | Name::Turn => {
+            let turn = call.name == Name::Turn;
+            let b_rows = if turn { counts[1] } else { counts[2] };
+            vec![
+                a(&call.a, true),
+                buffer(&call.b, b_rows, last, true),
+                buffer(&call.table, table_rows, last, turn),
+                buffer(&call.product, counts[0], last, turn),
+            ]
+        }
+    }
+}
+
+/// What an accepted call leaves.
+pub fn done(call: &Call) -> Written {
+    let mut left = Written { record: call.record.clone(), table: call.table.clone(), product: call.product.clone() };
+    let digits = |size: (u64, u64), buffer: &[u8]| Digits::of_words(size.0 as usize, size.1 as usize, &words(buffer));
+    match call.name {
+        Name::Check => {}
+        Name::Turn => turned(call, &mut left),
+        Name::Open => {
+            let width = if call.width == 0 { 4 } else { call.width };
+            left.record = bytes(&[call.a_size.0, call.a_size.1, call.b_size.1, width, 0, 0, 0]);
+            left.table = vec![0; call.table.len()];
+            left.product = vec![0; call.product.len()];
+        }
+        Name::Negation => {
+            let mut a = digits(call.a_size, &call.a);
+            for cell in a.cells.iter_mut() {
+                *cell = (3 - *cell) % 3;
+            }
+            left.product = bytes(&a.words());
+        }
+        Name::Sum | Name::Difference => {
+            let mut a = digits(call.a_size, &call.a);
+            let b = digits(call.b_size, &call.b);
+            for (x, y) in a.cells.iter_mut().zip(&b.cells) {
+                *x = if call.name == Name::Sum { (*x + *y) % 3 } else { (*x + 3 - *y) % 3 };
+            }
+            left.product = bytes(&a.words());
+        }
+        Name::Product => {
+            let (a, b) = (digits(call.a_size, &call.a), digits(call.b_size, &call.b));
+            left.product = bytes(&product(&a, &b).words());
+        }
+    }
+    left
+}
+
+/// The next steps of the list, on table and product as found.
+fn turned(call: &Call, left: &mut Written) {
+    let mut record = words(&call.record);
+    let (m, l, n, width) = (record[0] as usize, record[1] as usize, record[2] as usize, record[3] as usize);
+    let a = Digits::of_words(m, l, &words(&call.a));
+    let b = Digits::of_words(l, n, &words(&call.b));
+    let mut table = Digits::of_words(1 << width, n, &words(&call.table));
+    let mut product = Digits::of_words(m, n, &words(&call.product));
+    let steps = list(&a, width);
+    let first = record[4] as usize;
+    let made = (steps.len() - first).min(call.budget as usize);
+    for step in &steps[first..first + made] {
+        for j in 0..n {
+            match *step {
+                Step::Table { row, from, of_b } => table.cells[row * n + j] = (table.at(from, j) + b.at(of_b, j)) % 3,
+                Step::Add { row, from } => product.cells[row * n + j] = (product.at(row, j) + table.at(from, j)) % 3,
+                Step::Subtract { row, from } => product.cells[row * n + j] = (product.at(row, j) + 3 - table.at(from, j)) % 3,
+            }
+        }
+    }
+    record[4] += made as u64;
+    record[5] = made as u64;
+    record[6] = (record[4] == steps.len() as u64) as u64;
+    left.record = bytes(&record);
+    left.table = bytes(&table.words());
+    left.product = bytes(&product.words());
+}

@@ -1,0 +1,164 @@
+/*
+ * Nyuzolamba: packed matrices over the field of three elements (digits 0, 1, 2). The C face; docs/01-scope.md is its law.
+ *
+ * A MATRIX IS A BUFFER OF BYTES. With c columns a row is q = c / 64 (rounded up) unit words, then q sign words, 64 bits each; every word is
+ * eight bytes, lowest byte first, on every machine. Column 64 j + t is the bit of weight 2^t in word j of either plane. The digit 0 has neither
+ * bit, 1 has unit alone, 2 has both. Sign without unit is illegal, and so is any bit at or beyond column c. Rows follow one another, so that
+ * a matrix has exactly nyuzolamba_bytes(rows, columns) bytes. Rows and columns run from 0 to NYUZOLAMBA_LIMIT. Buffers need no alignment.
+ *
+ * WHO OWNS WHAT. All buffers are the host's, before, during and after a call. The library has no memory of its own, keeps no pointer, allocates
+ * nothing, reads no file and prints nothing. A call reads and writes the bytes it was handed and no others.
+ *
+ * POINTERS. Each pointer comes with the number of bytes behind it, and that many must really be there. No pointer may be null. A matrix without
+ * rows or without columns has no bytes: hand in any pointer that is not null (the address of any variable will do) and the length 0.
+ *
+ * OVERLAP. Buffers that are only read may overlap or be one: A and B may be the same buffer. A buffer that is written (out, product, table,
+ * record) shares no byte with any other buffer of the call. No call can test this: the host sees to it.
+ *
+ * THREADS. There is no state: calls may run at once in any number of threads as long as no call writes a buffer that another one uses. A call
+ * uses up to eight kilobytes of stack.
+ *
+ * ANSWERS. Each call returns one of the numbers below. On any number but NYUZOLAMBA_DONE it has written nothing: every buffer, the record too,
+ * holds what it held. Where several numbers would fit, the first one in the order written at the call comes back. A test runs over all that
+ * it can apply to before the next one starts. Of the cells, buffers are looked at in the order A, B, table, product, and in one buffer any
+ * NYUZOLAMBA_SIGN comes before any NYUZOLAMBA_PADDING. Every value of every argument has an answer: counts are never cut or wrapped.
+ */
+#ifndef NYUZOLAMBA_H
+#define NYUZOLAMBA_H
+
+#include <stddef.h>
+#include <stdint.h>
+
+#ifdef __cplusplus
+extern "C" {
+#endif
+
+/* What comes back. The numbers are those of document 01; 8, 9 and 10 belong to requests that the C face does not have or cannot reach. */
+enum {
+    NYUZOLAMBA_DONE = 0,      /* done */
+    NYUZOLAMBA_SIZE = 1,      /* a row or column count is above 1,024 */
+    NYUZOLAMBA_UNFIT = 2,     /* sum, difference: the sizes differ; product, open: A's columns aren't B's rows */
+    NYUZOLAMBA_WIDTH = 3,     /* the width is above 8; in a turn, also 0 */
+    NYUZOLAMBA_LENGTH = 4,    /* a buffer isn't of the exact length */
+    NYUZOLAMBA_SIGN = 5,      /* a real column holds sign without unit */
+    NYUZOLAMBA_PADDING = 6,   /* a bit beyond the last column is set */
+    NYUZOLAMBA_STEPS = 7,     /* the record's steps done exceed the length of the list of row steps */
+    NYUZOLAMBA_FACE_LIMIT = 11 /* a row or column count is above 64, and none above 1,024 */
+};
+
+/* Sizes. */
+enum {
+    NYUZOLAMBA_LIMIT = 64,          /* most rows and most columns */
+    NYUZOLAMBA_WIDTH_DEFAULT = 4,   /* what width 0 means to nyuzolamba_open */
+    NYUZOLAMBA_WIDTH_MOST = 8,      /* widest blocks */
+    NYUZOLAMBA_RECORD_BYTES = 56    /* a job's record: seven words of eight bytes */
+};
+
+/* The words of a job's record, by their place: nyuzolamba_word(record, NYUZOLAMBA_STEPS_DONE). */
+enum {
+    NYUZOLAMBA_A_ROWS = 0,      /* m: rows of A and of the product */
+    NYUZOLAMBA_MIDDLE = 1,      /* l: columns of A, rows of B */
+    NYUZOLAMBA_B_COLUMNS = 2,   /* n: columns of B, of the table and of the product */
+    NYUZOLAMBA_JOB_WIDTH = 3,   /* the width, 1 to 8 */
+    NYUZOLAMBA_STEPS_DONE = 4,  /* steps of the list that are done */
+    NYUZOLAMBA_STEPS_MADE = 5,  /* steps that the last turn made; a turn doesn't read it */
+    NYUZOLAMBA_ENDED = 6        /* 1 if the list has ended, else 0; a turn doesn't read it */
+};
+
+/* The bytes of a matrix of these sizes, which are at most NYUZOLAMBA_LIMIT. (Above it no length is right, and the answer does not look at it.) */
+static inline size_t nyuzolamba_bytes(uint64_t rows, uint64_t columns)
+{
+    return (size_t)(rows * (columns / 64 + (columns % 64 != 0)) * 16);
+}
+
+/* The bytes of a job's table: 2^width rows of as many columns as B has, also where A has fewer columns than the width. Width 0 is the default;
+ * a width above NYUZOLAMBA_WIDTH_MOST has no table, and gives 0. */
+static inline size_t nyuzolamba_table_bytes(uint64_t width, uint64_t b_columns)
+{
+    if (width > NYUZOLAMBA_WIDTH_MOST)
+        return 0;
+    if (width == 0)
+        width = NYUZOLAMBA_WIDTH_DEFAULT;
+    return nyuzolamba_bytes((uint64_t)1 << width, b_columns);
+}
+
+/* Word number `index` of a buffer. */
+static inline uint64_t nyuzolamba_word(const uint8_t *bytes, size_t index)
+{
+    uint64_t word = 0;
+    size_t i;
+    for (i = 8; i-- > 0;)
+        word = word << 8 | bytes[8 * index + i];
+    return word;
+}
+
+/* Sets word number `index` of a buffer. */
+static inline void nyuzolamba_set_word(uint8_t *bytes, size_t index, uint64_t word)
+{
+    size_t i;
+    for (i = 0; i < 8; i++)
+        bytes[8 * index + i] = (uint8_t)(word >> 8 * i);
+}
+
+/*
+ * Is this buffer a legal matrix of `rows` by `columns`? Writes nothing.
+ * Order: SIZE, FACE_LIMIT, LENGTH, SIGN, PADDING.
+ */
+uint64_t nyuzolamba_check(uint64_t rows, uint64_t columns, const uint8_t *a, size_t a_bytes);
+
+/*
+ * out = A + B, cell by cell, modulo 3. `out` is of A's size; what it held is not looked at.
+ * Order: SIZE, FACE_LIMIT, UNFIT, LENGTH (of a, b, out), SIGN and PADDING of A, then of B.
+ */
+uint64_t nyuzolamba_sum(uint64_t a_rows, uint64_t a_columns, uint64_t b_rows, uint64_t b_columns, const uint8_t *a, size_t a_bytes,
+                        const uint8_t *b, size_t b_bytes, uint8_t *out, size_t out_bytes);
+
+/* out = A - B. All else as in nyuzolamba_sum. */
+uint64_t nyuzolamba_difference(uint64_t a_rows, uint64_t a_columns, uint64_t b_rows, uint64_t b_columns, const uint8_t *a, size_t a_bytes,
+                               const uint8_t *b, size_t b_bytes, uint8_t *out, size_t out_bytes);
+
+/*
+ * out = -A: 1 becomes 2 and 2 becomes 1. `out` is of A's size; what it held is not looked at.
+ * Order: SIZE, FACE_LIMIT, LENGTH (of a, out), SIGN, PADDING.
+ */
+uint64_t nyuzolamba_negation(uint64_t rows, uint64_t columns, const uint8_t *a, size_t a_bytes, uint8_t *out, size_t out_bytes);
+
+/*
+ * product = A times B, all at once, with a table of its own and the default width. `product` is a_rows by b_columns; what it held is not
+ * looked at. A middle of 0 (A without columns, B without rows) gives zeros.
+ * Order: SIZE, FACE_LIMIT, UNFIT, LENGTH (of a, b, product), SIGN and PADDING of A, then of B.
+ */
+uint64_t nyuzolamba_product(uint64_t a_rows, uint64_t a_columns, uint64_t b_rows, uint64_t b_columns, const uint8_t *a, size_t a_bytes,
+                            const uint8_t *b, size_t b_bytes, uint8_t *product, size_t product_bytes);
+
+/*
+ * Opens a job: a product of A and B to be made in turns. Sets table (nyuzolamba_table_bytes) and product to zero and fills the record: m, l, n,
+ * the width meant, and 0 in the other three words. What the three held is not looked at. Opening makes no step.
+ *
+ * Between opening and the last turn A, B, table, product and record stay as they are: the host keeps them, in memory or in a file, and hands
+ * them in again. Nothing else ties a record to its buffers.
+ * Order: LENGTH of the record, before all else; SIZE, FACE_LIMIT, UNFIT, WIDTH, LENGTH (of a, b, table, product), SIGN and PADDING of A,
+ * then of B.
+ */
+uint64_t nyuzolamba_open(uint64_t a_rows, uint64_t a_columns, uint64_t b_rows, uint64_t b_columns, uint64_t width, uint8_t *record,
+                         size_t record_bytes, const uint8_t *a, size_t a_bytes, const uint8_t *b, size_t b_bytes, uint8_t *table,
+                         size_t table_bytes, uint8_t *product, size_t product_bytes);
+
+/*
+ * Gives a job a turn: carries out the next steps of its list, as many as the budget allows or until the list ends, on table and product as
+ * they are. Then the record's steps done have grown by the steps made, which stand in word NYUZOLAMBA_STEPS_MADE, and word NYUZOLAMBA_ENDED is 1
+ * if the list has ended, else 0. The other words stay. At the list's end, or with budget 0, no step is made; all tests are, and a first turn with
+ * budget 0 says whether there is anything to do. Each row step writes one row of table or product.
+ *
+ * SIZE, FACE_LIMIT and WIDTH are about the record's words, STEPS about its steps done: a record may hold any seven words.
+ * Order: LENGTH of the record, before all else; SIZE, FACE_LIMIT, WIDTH, LENGTH (of a, b, table, product), SIGN and PADDING of A, of B, of table, of
+ * product, then STEPS.
+ */
+uint64_t nyuzolamba_turn(uint8_t *record, size_t record_bytes, const uint8_t *a, size_t a_bytes, const uint8_t *b, size_t b_bytes,
+                         uint8_t *table, size_t table_bytes, uint8_t *product, size_t product_bytes, uint32_t budget);
+
+#ifdef __cplusplus
+}
+#endif
+
+#endif
