@@ -13,6 +13,7 @@ use Rattle.requests.specs.declared.Size.{Size}
 use Rattle.requests.specs.declared.Answer.{Answer}
 use Rattle.requests.specs.Answers.{number, first, left}
 use Rattle.requests.specs.Sizes.{over, unfit, faults}
+use Rattle.requests.proofs.SizeLaws.{not-unfit}
 use Rattle.requests.proofs.AnswerLaws.{None, first-none, refused}
 use Rattle.walk.proofs.CountLaws.{pow-small}
 use Rattle.matrix.specs.declared.job.Job.{Job}
@@ -30,10 +31,6 @@ use Rattle.cface.specs.Open.{openSizes, openFaceTests, openFace}
 use Rattle.cface.specs.Turn.{turnSizes, wordTests, turned, turnFaceTests, turnFace}
 use Rattle.cface.proofs.LimitLaws.{Room, room, fit-bytes, above-rows, above-columns, fits-words, fits-in, fits-a, fits-b, fits-out, fit-a, fit-b, fit-table, fit-product}
 use Rattle.cface.proofs.CarryLaws.{past-none, carried}
-
-exact : (s : Size) (n : ℕ) → n ≡ words (s .rows) (s .columns) → unfit s n ≡ false
-unfolding unfit
-exact s n e = rw (eq-eqb n (words (s .rows) (s .columns)) e)
 
 -- the library's tests of an opening, where no size, width or length is wrong
 module _ (x y : Size) (w : ℕ) (a b : List ℕ) (t p : ℕ) (small : (over x || over y) ≡ false) (same : not (eqb (x .columns) (y .rows)) ≡ false) (narrow : ltb 8 w ≡ false) (fa : unfitBytes x (length a) ≡ false) (fb : unfitBytes y (length b) ≡ false) (ft : unfit (tableSize y (meant w)) t ≡ false) (fp : unfit (productSize x y) p ≡ false) where
@@ -86,7 +83,7 @@ module _ (x y : Size) (a b : List ℕ) (n : ℕ) (z : first (productSizes x y (l
   product-same : (t k : ℕ) → t ≡ words 16 (y .columns) → n ≡ 8 * k → first (openingTests x y 0 (wordsIn a) (wordsIn b) t k) ≡ first (productFaceTests x y a b n)
   unfolding productFaceTests productSizes meant
   product-same t k et e =
-      opening-left x y 0 a b t k (product-none .0) (product-none .1 .1 .0) refl bytes-a bytes-b (exact (tableSize y (meant 0)) t et) (fits-words (productSize x y) n k bytes-out e)
+      opening-left x y 0 a b t k (product-none .0) (product-none .1 .1 .0) refl bytes-a bytes-b (not-unfit (tableSize y (meant 0)) t et) (fits-words (productSize x y) n k bytes-out e)
       ∙ sym (past-none (productSizes x y (length a) (length b) n) (faults x (wordsIn a) ++ (faults y (wordsIn b) ++ countless (totalOf x (meant 0) (wordsIn a)))) product-none)
 
 pub product-carried : (x y : Size) (a b out u v t w t′ w′ : List ℕ) (f : ℕ) (r : Answer) → first (productSizes x y (length a) (length b) (length out)) ≡ 0 → length t ≡ words 16 (y .columns) → length out ≡ 8 * length w

@@ -14,20 +14,11 @@ use super::limit::either_above;
 use super::limit::misfit;
 use super::record::job_in;
 use matrix::job::Job;
+use matrix::turn::unwide;
 use requests::Answer;
 use requests::Size;
 use requests::number;
 use requests::sizes::either_over;
-
-// In a turn a width is 1 to 8.
-fn unwide(width: u64) -> bool
-    ensures { λ r. ⌜ r ≡ (eqb width 0 || ltb 8 width) ⌝ }
-{
-    if width == 0 {
-        return true;
-    }
-    width > 8
-}
 
 // The tests of sizes, width and lengths; k, l, m, t and p are how many bytes record, A, B, table and product have.
 fn judged(job: Job, k: usize, l: usize, m: usize, t: usize, p: usize) -> Answer

@@ -18,6 +18,7 @@ use requests::sizes::either_over;
 use walk::Left;
 use walk::Shape;
 use walk::blocks::blocks_part;
+use walk::blocks::least;
 use walk::place::place;
 
 pub struct Turned {
@@ -28,19 +29,13 @@ pub struct Turned {
 }
 
 // In a turn a width is 1 to 8.
-fn unwide(width: u64) -> bool
+pub fn unwide(width: u64) -> bool
     ensures { λ r. ⌜ r ≡ (eqb width 0 || ltb 8 width) ⌝ }
 {
     if width == 0 {
         return true;
     }
     width > 8
-}
-
-fn least(a: u64, b: u64) -> u64
-    ensures { λ r. ⌜ r ≡ min a b ⌝ }
-{
-    if a < b { a } else { b }
 }
 
 // The faults of two buffers of the right length, the first one's first.

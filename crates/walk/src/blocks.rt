@@ -15,7 +15,8 @@ use super::table_part::table_part;
 use crate::Left;
 use crate::Shape;
 
-fn least(a: u64, b: u64) -> u64
+// The smaller of two numbers.
+pub fn least(a: u64, b: u64) -> u64
     ensures { λ r. ⌜ r ≡ min a b ⌝ }
 {
     if a < b { a } else { b }
