@@ -190,6 +190,27 @@ module _ (x y : Size) (w : ℕ) (a b : List ℕ) (hm : x .rows ≤ 1024) (hl : x
   unfolding after run opening
   start = record { record-is = refl; table-is = refl; product-is = refl }
 
+  -- these matrices are opened at this width, with any table and product of the right length
+  pub opens : (t p : List ℕ) → l ≡ y .rows → length t ≡ words (2 ^ k) n → length p ≡ words m n → openingMeans x y w a b t p ≡ (0, (jobAt 0, (tableAt 0, productAt 0)))
+  unfolding openingMeans openingTests fittingTests misfit faults after run opening
+  opens t p same lt lp =
+      let ta = tests-legal m l a LA in
+      let LY : Legal (y .rows) n b = rw (← same) LB in
+      let tb = tests-legal (y .rows) n b LY in
+      sym (finished _ _ _ _ (none-first (openingTests x y w a b (length t) (length p)) (
+        rw (not-over x hm hl) (not-over y (omega arith) hn),
+        (
+          rw (eq-eqb l (y .rows) same),
+          (
+            le-ltb 8 w hw,
+            (
+              rw (not-unfit x (length a) (LA .long), not-unfit y (length b) (LY .long), not-unfit (tableSize y k) (length t) lt) (not-unfit (productSize x y) (length p) lp),
+              (ta .0, (ta .1, (tb .0, (tb .1, (le-ltb 4294967295 long (omega (arith, total-small m l k A hm hl (meant-pos w) k8)), tt))))),
+            ),
+          ),
+        ),
+      )) refl)
+
   -- the end: the schoolbook product, for every width
   pub end-right : (d : ℕ) → long ≤ d → productAt d ≡ encode m n (schoolbook l A B)
   unfolding total

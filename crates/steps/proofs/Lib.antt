@@ -9,5 +9,4 @@ pub mod Fits
 pub mod Kept
 pub mod Same
 pub mod Turns
-pub mod Places
 pub mod KnownSumsHold

@@ -3,5 +3,4 @@ pub mod Step
 pub mod StepList
 pub mod Count
 pub mod Turn
-pub mod Place
 pub mod KnownSums
