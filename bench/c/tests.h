@@ -3,7 +3,17 @@
 #include <stddef.h>
 #include <stdint.h>
 
-enum { DONE = 0, TOO_LARGE = 1, WIDTH_WRONG = 3, LENGTH_WRONG = 4, STRAY_SIGN = 5, PADDING_SET = 6, DIGIT_WRONG = 8 };
+enum {
+    DONE = 0,
+    TOO_LARGE = 1,
+    SIZES_DIFFER = 2,
+    WIDTH_WRONG = 3,
+    LENGTH_WRONG = 4,
+    STRAY_SIGN = 5,
+    PADDING_SET = 6,
+    DIGIT_WRONG = 8,
+    ABOVE_LIMIT = 11
+};
 
 // Words a plane of a row.
 static inline size_t planes(size_t c)
