@@ -191,6 +191,8 @@ REQUEST(unpack, WORDS(0), CELLS(1))
 FACE(check, BYTES(0))
 FACE(sum, w->size, w->size, BYTES(0), BYTES(1), BYTES(2))
 FACE(product, w->size, w->size, BYTES(0), BYTES(1), BYTES(2))
+// Ours is compiled to calls of the same memcpy, so the copies alone have one side only.
+SIDE(face_copied, face_copies, BYTES(0), BYTES(1), BYTES(2))
 
 // Products: A, B, table and product. A turn reads all four, so for a lone one table and product are legal.
 static void whole(struct work *w)
@@ -330,6 +332,7 @@ static const struct bench_case cases[] = {
     {"face-check", {64}, 4, fill_one, ours_face_check, c_face_check, WORD, 1, spoil_matrix, 0},
     {"face-sum", {64}, 4, fill_two_to_one, ours_face_sum, c_face_sum, WORD, 2, spoil_matrix, 0},
     {"face-product", {64}, 4, fill_two_to_one, ours_face_product, c_face_product, STEP, 2, spoil_matrix, 4},
+    {"face-copies", {64}, 4, fill_two_to_one, face_copied, face_copied, WORD, 0, NULL, 0},
 };
 
 enum { CASES = sizeof cases / sizeof *cases };

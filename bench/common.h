@@ -3,6 +3,8 @@
 #include <stdio.h>
 #include <stdlib.h>
 
+#include "c/planes.h"
+
 static void die(int status, const char *what, const char *about)
 {
     fprintf(stderr, "bench: %s: %s\n", what, about);
@@ -32,11 +34,6 @@ static uint64_t random_word(void)
     z = (z ^ z >> 30) * 0xbf58476d1ce4e5b9;
     z = (z ^ z >> 27) * 0x94d049bb133111eb;
     return z ^ z >> 31;
-}
-
-static inline size_t planes(size_t c)
-{
-    return (c + 63) / 64;
 }
 
 // Of n by n cells.

@@ -35,7 +35,7 @@ uint64_t face_check(uint64_t rows, uint64_t columns, const uint8_t *a, size_t a_
     return matrix_check(rows, columns, u, a_bytes / sizeof *u);
 }
 
-// Sizes A has and B has; `fits`: what the request asks of them. The result is A's rows by B's columns.
+// `fits`: the sizes are as the request asks. The result is A's rows by B's columns.
 static inline uint64_t judge(uint64_t a_rows, uint64_t a_columns, uint64_t b_rows, uint64_t b_columns, bool fits, size_t a_bytes, size_t b_bytes,
                              size_t out_bytes)
 {
@@ -79,4 +79,18 @@ uint64_t face_product(uint64_t a_rows, uint64_t a_columns, uint64_t b_rows, uint
     if (no == DONE)
         memcpy(out, w, out_bytes);
     return no;
+}
+
+uint64_t face_copies(uint64_t rows, uint64_t columns, const uint8_t *a, size_t a_bytes, const uint8_t *b, size_t b_bytes, uint8_t *out,
+                     size_t out_bytes)
+{
+    uint64_t u[MOST_WORDS], v[MOST_WORDS];
+    if (above(rows, columns))
+        return ABOVE_LIMIT;
+    memcpy(u, a, a_bytes);
+    memcpy(v, b, b_bytes);
+    // Nothing is made of the words, and yet they are to be copied.
+    __asm__ volatile("" : : "r"(u), "r"(v) : "memory");
+    memcpy(out, u, out_bytes);
+    return DONE;
 }

@@ -3,6 +3,8 @@
 #include <stddef.h>
 #include <stdint.h>
 
+#include "planes.h"
+
 enum {
     DONE = 0,
     TOO_LARGE = 1,
@@ -14,12 +16,6 @@ enum {
     DIGIT_WRONG = 8,
     ABOVE_LIMIT = 11
 };
-
-// Words a plane of a row.
-static inline size_t planes(size_t c)
-{
-    return (c + 63) / 64;
-}
 
 static inline bool over(uint64_t rows, uint64_t columns)
 {
