@@ -1,5 +1,5 @@
 // bench                          lists the cases, a line each: name, size, times to be measured, parts of its work, what a part is
-// bench CASE SIZE TIMES SIDE     runs one case; SIDE is ours or c
+// bench TIMES CASE SIZE SIDE     runs one case; SIDE is ours or c
 //
 // Before it runs the side, a case is run on both sides and the contents of all buffers are compared; a request is run on spoilt buffers too, and
 // both sides must refuse them alike. What this and the filling cost is the same whatever TIMES is, so it falls out of a difference of two runs.
@@ -12,9 +12,13 @@
 #include <stdlib.h>
 #include <string.h>
 
+#include <nyuzolamba.h>
+
+#include "c/face.h"
 #include "c/kernels.h"
 #include "c/product.h"
 #include "c/requests.h"
+#include "common.h"
 
 // Ours: a slice is its start and its number of elements. 0 is done, anything else a refusal; a turn gives back the steps done, or REFUSED. A row step
 // is repeated on our side.
@@ -30,7 +34,7 @@ one_to_cells bench_unpack;
 job_begun bench_product, bench_opening;
 job_continued bench_turn;
 
-enum { BUFFERS = 4, SIZES = 4 };
+enum { BUFFERS = 4, SIZES = 5 };
 
 // What a case works on; a buffer of bytes is one of words, cast.
 struct work {
@@ -38,22 +42,6 @@ struct work {
     uint64_t *at[BUFFERS];
     size_t words[BUFFERS];
 };
-
-static void die(int status, const char *what, const char *about)
-{
-    fprintf(stderr, "bench: %s: %s\n", what, about);
-    exit(status);
-}
-
-static uint64_t seed;
-
-static uint64_t random_word(void)
-{
-    uint64_t z = seed += 0x9e3779b97f4a7c15;
-    z = (z ^ z >> 30) * 0xbf58476d1ce4e5b9;
-    z = (z ^ z >> 27) * 0x94d049bb133111eb;
-    return z ^ z >> 31;
-}
 
 // Two random bits a cell; a cell that got the illegal pair draws again, so the three digits are equally likely.
 static void random_cells(uint64_t *unit, uint64_t *sign)
@@ -77,11 +65,6 @@ static void words(struct work *w, int i, size_t n)
         die(2, "no memory for buffer", "aligned_alloc");
     w->words[i] = n;
     memset(w->at[i], 0, bytes);
-}
-
-static size_t planes(size_t c)
-{
-    return (c + 63) / 64;
 }
 
 // The columns among the places of the last word of a plane.
@@ -146,11 +129,6 @@ ROW_STEP(subtract, subtract_row(d, s, q))
 ROW_STEP(table_step, table_step(d + 2 * q, d, s, q))
 
 // Requests: the matrices have as many columns as rows. Both sides take the same arguments, and the loop that repeats the call is here for both.
-static size_t matrix_words(size_t n)
-{
-    return 2 * planes(n) * n;
-}
-
 static void fill_one(struct work *w)
 {
     matrix(w, 0, w->size, w->size);
@@ -204,32 +182,32 @@ SIDE(c_transpose_blocks, matrix_transpose_blocks, WORDS(0), WORDS(1))
 REQUEST(pack, CELLS(0), WORDS(1))
 REQUEST(unpack, WORDS(0), CELLS(1))
 
+// The C face: the same buffers as bytes. On x86-64 a word's bytes already lie lowest first.
+#define BYTES(i) (uint8_t *)w->at[i], sizeof(uint64_t) * w->words[i]
+#define FACE(name, ...)                                    \
+    SIDE(ours_face_##name, nyuzolamba_##name, __VA_ARGS__) \
+    SIDE(c_face_##name, face_##name, __VA_ARGS__)
+
+FACE(check, BYTES(0))
+FACE(sum, w->size, w->size, BYTES(0), BYTES(1), BYTES(2))
+FACE(product, w->size, w->size, BYTES(0), BYTES(1), BYTES(2))
+// Ours is compiled to calls of the same memcpy, so the copies alone have one side only.
+SIDE(face_copied, face_copies, BYTES(0), BYTES(1), BYTES(2))
+
 // Products: A, B, table and product. A turn reads all four, so for a lone one table and product are legal.
-static void whole(struct work *w, size_t width)
+static void whole(struct work *w)
 {
-    w->width = width;
     matrix(w, 0, w->size, w->size);
     matrix(w, 1, w->size, w->size);
-    anything(w, 2, 2 * planes(w->size) << width);
+    anything(w, 2, 2 * planes(w->size) << w->width);
     anything(w, 3, matrix_words(w->size));
 }
 
-static void whole_4(struct work *w)
+static void lone_turn(struct work *w)
 {
-    whole(w, 4);
-}
-
-static void whole_8(struct work *w)
-{
-    whole(w, 8);
-}
-
-static void turn_8(struct work *w)
-{
-    w->width = 8;
     matrix(w, 0, w->size, w->size);
     matrix(w, 1, w->size, w->size);
-    matrix(w, 2, 1 << w->width, w->size);
+    matrix(w, 2, (size_t)1 << w->width, w->size);
     matrix(w, 3, w->size, w->size);
 }
 
@@ -299,27 +277,20 @@ static bool spoil_cells(struct work *w, int buffer, int way)
 }
 
 typedef uint64_t call(struct work *w, size_t times);
-typedef size_t parts(size_t size);
 
-static size_t row_words(size_t q)
-{
-    return 2 * q;
-}
+// What a call's work is made up of.
+enum part { WORD, CELL, STEP };
+static const char *const part_names[] = {"word", "cell", "step"};
 
-static size_t matrix_cells(size_t n)
+// The size quote: as many steps as if no P and no N were 0.
+static size_t steps(size_t n, size_t width)
 {
-    return n * n;
-}
-
-// The size quotes: as many steps as if no P and no N were 0.
-static size_t steps_4(size_t n)
-{
-    return n / 4 * (15 + 2 * n);
-}
-
-static size_t steps_8(size_t n)
-{
-    return n / 8 * (255 + 2 * n);
+    size_t quote = 0;
+    for (size_t s = 0; s < n; s += width) {
+        size_t w = n - s < width ? n - s : width;
+        quote += ((size_t)1 << w) - 1 + 2 * n;
+    }
+    return quote;
 }
 
 struct bench_case {
@@ -328,38 +299,48 @@ struct bench_case {
     size_t times;
     void (*fill)(struct work *w);
     call *ours, *c;
-    const char *part; // what a call's work is made up of, and how many
-    parts *parts;
+    enum part part;
     int reads; // buffers, from the first on, that `spoil` spoils
     spoil *spoil;
+    size_t width; // a job's, else 0
 };
 
-// At 1,000 columns the last word of a plane has padding.
+#define PRODUCT whole, ours_product, c_product, STEP, 2, spoil_matrix
+
+// At 1,000 columns the last word of a plane has padding. Each width of a product stands at the sizes where it is the best or next to it, so that
+// the best at each size is found by the run.
 static const struct bench_case cases[] = {
-    {"add-row", {1, 4, 16}, 1000, row_step, ours_add, c_add, "word", row_words, 0, NULL},
-    {"subtract-row", {1, 4, 16}, 1000, row_step, ours_subtract, c_subtract, "word", row_words, 0, NULL},
-    {"table-step", {1, 4, 16}, 1000, row_step, ours_table_step, c_table_step, "word", row_words, 0, NULL},
-    {"check", {64, 256, 1000, 1024}, 4, fill_one, ours_check, c_check, "word", matrix_words, 1, spoil_matrix},
-    {"sum", {64, 256, 1000, 1024}, 4, fill_two_to_one, ours_sum, c_sum, "word", matrix_words, 2, spoil_matrix},
-    {"difference", {64, 256, 1024}, 4, fill_two_to_one, ours_difference, c_difference, "word", matrix_words, 2, spoil_matrix},
-    {"negation", {64, 256, 1024}, 4, fill_one_to_one, ours_negation, c_negation, "word", matrix_words, 1, spoil_matrix},
-    {"scaling", {64, 256, 1024}, 4, fill_one_to_one, ours_scaling, c_scaling, "word", matrix_words, 1, spoil_matrix},
-    {"transpose", {64, 256, 1000, 1024}, 2, fill_one_to_one, ours_transpose, c_transpose, "cell", matrix_cells, 1, spoil_matrix},
-    {"transpose-blocks", {64, 256, 1024}, 2, fill_one_to_one, ours_transpose, c_transpose_blocks, "cell", matrix_cells, 1, spoil_matrix},
-    {"pack", {64, 256, 1000, 1024}, 2, fill_cells_to_one, ours_pack, c_pack, "cell", matrix_cells, 1, spoil_cells},
-    {"unpack", {64, 256, 1000, 1024}, 2, fill_one_to_cells, ours_unpack, c_unpack, "cell", matrix_cells, 1, spoil_matrix},
-    {"product-4", {64, 1024}, 2, whole_4, ours_product, c_product, "step", steps_4, 2, spoil_matrix},
-    {"product-8", {256, 1024}, 2, whole_8, ours_product, c_product, "step", steps_8, 2, spoil_matrix},
-    {"turn-of-0", {1024}, 2, turn_8, ours_turn, c_turn, "step", steps_8, 4, spoil_matrix},
-    {"turns-of-1000", {1024}, 1, whole_8, ours_turns, c_turns, "step", steps_8, 2, spoil_matrix},
+    {"add-row", {1, 4, 16}, 1000, row_step, ours_add, c_add, WORD, 0, NULL, 0},
+    {"subtract-row", {1, 4, 16}, 1000, row_step, ours_subtract, c_subtract, WORD, 0, NULL, 0},
+    {"table-step", {1, 4, 16}, 1000, row_step, ours_table_step, c_table_step, WORD, 0, NULL, 0},
+    {"check", {64, 256, 1000, 1024}, 4, fill_one, ours_check, c_check, WORD, 1, spoil_matrix, 0},
+    {"sum", {64, 256, 1000, 1024}, 4, fill_two_to_one, ours_sum, c_sum, WORD, 2, spoil_matrix, 0},
+    {"difference", {64, 256, 1024}, 4, fill_two_to_one, ours_difference, c_difference, WORD, 2, spoil_matrix, 0},
+    {"negation", {64, 256, 1024}, 4, fill_one_to_one, ours_negation, c_negation, WORD, 1, spoil_matrix, 0},
+    {"scaling", {64, 256, 1024}, 4, fill_one_to_one, ours_scaling, c_scaling, WORD, 1, spoil_matrix, 0},
+    {"transpose", {64, 256, 1000, 1024}, 2, fill_one_to_one, ours_transpose, c_transpose, CELL, 1, spoil_matrix, 0},
+    {"transpose-blocks", {64, 256, 1024}, 2, fill_one_to_one, ours_transpose, c_transpose_blocks, CELL, 1, spoil_matrix, 0},
+    {"pack", {64, 256, 1000, 1024}, 2, fill_cells_to_one, ours_pack, c_pack, CELL, 1, spoil_cells, 0},
+    {"unpack", {64, 256, 1000, 1024}, 2, fill_one_to_cells, ours_unpack, c_unpack, CELL, 1, spoil_matrix, 0},
+    {"product-4", {64, 128, 1024}, 2, PRODUCT, 4},
+    {"product-5", {64, 128}, 2, PRODUCT, 5},
+    {"product-6", {64, 128, 256}, 2, PRODUCT, 6},
+    {"product-7", {128, 256, 512}, 2, PRODUCT, 7},
+    {"product-8", {256, 512, 1024}, 2, PRODUCT, 8},
+    {"turn-of-0", {1024}, 2, lone_turn, ours_turn, c_turn, STEP, 4, spoil_matrix, 8},
+    {"turns-of-1000", {1024}, 1, whole, ours_turns, c_turns, STEP, 2, spoil_matrix, 8},
+    {"face-check", {64}, 4, fill_one, ours_face_check, c_face_check, WORD, 1, spoil_matrix, 0},
+    {"face-sum", {64}, 4, fill_two_to_one, ours_face_sum, c_face_sum, WORD, 2, spoil_matrix, 0},
+    {"face-product", {64}, 4, fill_two_to_one, ours_face_product, c_face_product, STEP, 2, spoil_matrix, 4},
+    {"face-copies", {64}, 4, fill_two_to_one, face_copied, face_copied, WORD, 0, NULL, 0},
 };
 
 enum { CASES = sizeof cases / sizeof *cases };
 
 static struct work filled(const struct bench_case *k, size_t size)
 {
-    struct work w = {.size = size};
-    seed = 3;
+    struct work w = {.size = size, .width = k->width};
+    random_start();
     k->fill(&w);
     return w;
 }
@@ -400,15 +381,6 @@ static void compare_refusals(const struct bench_case *k, size_t size)
         }
 }
 
-static size_t number(const char *text)
-{
-    char *end;
-    unsigned long n = strtoul(text, &end, 10);
-    if (*text < '0' || *text > '9' || *end != '\0')
-        die(2, "not a number", text);
-    return n;
-}
-
 static bool has_size(const struct bench_case *k, size_t size)
 {
     for (int i = 0; i < SIZES && k->sizes[i] != 0; i++)
@@ -417,24 +389,43 @@ static bool has_size(const struct bench_case *k, size_t size)
     return false;
 }
 
+// Of one call; a row step has as many words as its row.
+static size_t parts(const struct bench_case *k, size_t size)
+{
+    switch (k->part) {
+    case WORD:
+        return k->fill == row_step ? 2 * size : matrix_words(size);
+    case CELL:
+        return size * size;
+    default:
+        return steps(size, k->width);
+    }
+}
+
+static void list_cases(void)
+{
+    for (int c = 0; c < CASES; c++)
+        for (int i = 0; i < SIZES && cases[c].sizes[i] != 0; i++) {
+            const struct bench_case *k = &cases[c];
+            printf("%s %zu %zu %zu %s\n", k->name, k->sizes[i], k->times, parts(k, k->sizes[i]), part_names[k->part]);
+        }
+}
+
 int main(int argc, char **argv)
 {
     if (argc == 1) {
-        for (int c = 0; c < CASES; c++)
-            for (int i = 0; i < SIZES && cases[c].sizes[i] != 0; i++)
-                printf("%s %zu %zu %zu %s\n", cases[c].name, cases[c].sizes[i], cases[c].times, cases[c].parts(cases[c].sizes[i]),
-                       cases[c].part);
+        list_cases();
         return 0;
     }
     if (argc != 5)
-        die(2, "usage", "bench [CASE SIZE TIMES SIDE]");
+        die(2, "usage", "bench [TIMES CASE SIZE SIDE]");
     const struct bench_case *k = NULL;
     for (int c = 0; c < CASES; c++)
-        if (strcmp(argv[1], cases[c].name) == 0)
+        if (strcmp(argv[2], cases[c].name) == 0)
             k = &cases[c];
-    size_t size = number(argv[2]), times = number(argv[3]);
+    size_t times = number(argv[1]), size = number(argv[3]);
     if (k == NULL || !has_size(k, size))
-        die(2, "no such case or size", argv[1]);
+        die(2, "no such case or size", argv[2]);
     bool ours = strcmp(argv[4], "ours") == 0;
     if (!ours && strcmp(argv[4], "c") != 0)
         die(2, "neither ours nor c", argv[4]);

@@ -3,13 +3,19 @@
 #include <stddef.h>
 #include <stdint.h>
 
-enum { DONE = 0, TOO_LARGE = 1, WIDTH_WRONG = 3, LENGTH_WRONG = 4, STRAY_SIGN = 5, PADDING_SET = 6, DIGIT_WRONG = 8 };
+#include "planes.h"
 
-// Words a plane of a row.
-static inline size_t planes(size_t c)
-{
-    return (c + 63) / 64;
-}
+enum {
+    DONE = 0,
+    TOO_LARGE = 1,
+    SIZES_DIFFER = 2,
+    WIDTH_WRONG = 3,
+    LENGTH_WRONG = 4,
+    STRAY_SIGN = 5,
+    PADDING_SET = 6,
+    DIGIT_WRONG = 8,
+    ABOVE_LIMIT = 11
+};
 
 static inline bool over(uint64_t rows, uint64_t columns)
 {

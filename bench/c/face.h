@@ -1,0 +1,14 @@
+// Three calls of the C face in C: the arguments, tests and numbers of nyuzolamba.h.
+#include <stddef.h>
+#include <stdint.h>
+
+uint64_t face_check(uint64_t rows, uint64_t columns, const uint8_t *a, size_t a_bytes);
+
+typedef uint64_t face_two_to_one(uint64_t a_rows, uint64_t a_columns, uint64_t b_rows, uint64_t b_columns, const uint8_t *a, size_t a_bytes,
+                                 const uint8_t *b, size_t b_bytes, uint8_t *out, size_t out_bytes);
+
+face_two_to_one face_sum, face_product;
+
+// The copies of a product alone: bytes to words twice, and words to bytes.
+uint64_t face_copies(uint64_t rows, uint64_t columns, const uint8_t *a, size_t a_bytes, const uint8_t *b, size_t b_bytes, uint8_t *out,
+                     size_t out_bytes);
