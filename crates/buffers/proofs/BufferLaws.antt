@@ -1,8 +1,8 @@
 -- The buffer that holds a matrix: it is legal, it holds the matrix, and it is the only one. Assumes nothing.
 use mathlib.Core.Path.{_≡_, refl, sym, ap, subst, _∙_}
 use mathlib.Core.Logic.{⊎-elim}
-use mathlib.Core.Bool.{Bool, true, false}
-use mathlib.Core.List.{List, [], _∷_, _++_}
+use mathlib.Core.Bool.{false}
+use mathlib.Core.List.{List, _++_}
 use Prim.Native.Nat.{ℕ, zero, suc, _+_, _-_, _*_, _/_, _%_, _^_, _≤_, _<_, min}
 use native.Mathlib.Nat.{zero-mul, mul-zero, suc-mul, mod-lt, div-add-mod', div-lt-iff-lt-mul, eq-zero-or-pos}
 use native.Mathlib.Decide.{decLt}
@@ -15,15 +15,14 @@ use Rattle.cells.proofs.AnyLaws.{any-none, any-at}
 use lib.ListN.{length, getD, length-append, List·getD-append, List·getD-eq-default}
 use lib.Seq.{getD-append-add, ext-getD}
 use Rattle.cells.specs.Bit.{bit, wordOf}
-use Rattle.cells.proofs.BitLaws.{bit-lt}
 use Rattle.cells.proofs.WordLaws.{wordOf-lt, wordOf-bit, bit-high, ext}
-use Rattle.cells.specs.Pair.{digit, LegalPair, Holds, WordPair}
+use Rattle.cells.specs.Pair.{digit, LegalPair, WordPair}
 use Rattle.cells.proofs.PairLaws.{holds-self, legal-none, digit-none}
 use Rattle.cells.specs.Digit.{Matrix, unitOf, signOf}
 use Rattle.cells.proofs.EncodeLaws.{unit-lt, sign-lt, unit-bit, sign-bit}
 use Rattle.buffers.specs.Buffer.{planes, wide, words, bitAt, unit, sign, cell, Legal, Words, tab, joined, plane, encode}
 use Rattle.buffers.specs.Fault.{stray, padded}
-use Rattle.buffers.proofs.SizeLaws.{planes-room, planes-tight, wide-is, row-in, bitAt-word}
+use Rattle.buffers.proofs.SizeLaws.{planes-room, wide-is, bitAt-word}
 
 -- ---- lists
 

@@ -1,6 +1,6 @@
 -- What `&`, `|` and `^` do to each bit of a number. Assumes nothing.
 use mathlib.Core.Path.{_≡_}
-use Prim.Native.Nat.{ℕ, zero, suc, _/_, _%_, _^_, _<_, min, max}
+use Prim.Native.Nat.{ℕ, zero, suc, _/_, _^_, _<_, min, max}
 use native.Mathlib.Omega.{arith}
 use lib.Arith.{digits-mod}
 use lib.Bits.{bitAnd, bitOr, bitXor, differ, and-shr, or-shr, xor-shr, and-step, or-step, xor-step}

@@ -2,7 +2,6 @@
 use mathlib.Core.Path.{_≡_, refl, sym, ap, _∙_}
 use Prim.Native.Nat.{ℕ, zero, suc, _+_, _*_, _/_, _%_, _^_, _≤_, _<_, min}
 use native.Mathlib.Nat.{add-zero}
-use native.Mathlib.Numerals.{add-one}
 use native.Mathlib.Omega.{arith}
 use lib.Arith.{lt-one}
 use lib.Count.{ones, ones-step}
@@ -17,10 +16,6 @@ use Rattle.cells.proofs.PairLaws.{cases}
 pub sumTo-none : (f : ℕ → ℕ) → sumTo f 0 ≡ 0
 unfolding sumTo
 sumTo-none f = refl
-
-pub sumTo-more : (f : ℕ → ℕ) (n : ℕ) → sumTo f (n + 1) ≡ sumTo f n + f n
-unfolding sumTo
-sumTo-more f n = rw (add-one n)
 
 pub sumTo-front : (f : ℕ → ℕ) (n : ℕ) → sumTo f (suc n) ≡ f 0 + sumTo (λ t. f (suc t)) n
 unfolding sumTo
@@ -59,9 +54,6 @@ ones-sum (suc k) w h =
     ∙ ap (λ (n : ℕ). w % 2 + n) (ones-sum k (w / 2) (omega arith) ∙ sumTo-below _ _ k (λ t l. sym (bit-suc w t)))
     ∙ ap (λ (n : ℕ). n + sumTo (λ t. bit w (suc t)) k) (sym (bit-zero w))
     ∙ sym (sumTo-front (bit w) k)
-
-pub ones-le : (k w : ℕ) → w < 2 ^ k → ones w ≤ k
-ones-le k w h = omega (arith, ones-sum k w h, bits-le w k)
 
 -- ---- the three words whose set bits are the places of a digit under a mask
 

@@ -1,12 +1,11 @@
 -- The words that hold given digits are the only ones. Assumes nothing.
-use mathlib.Core.Path.{_≡_, sym, ap, _∙_}
-use Prim.Native.Nat.{ℕ, _-_, _^_, _≤_, _<_, min}
+use mathlib.Core.Path.{_≡_, sym, _∙_}
+use Prim.Native.Nat.{ℕ, _-_, _^_, _<_}
 use native.Mathlib.Omega.{arith}
-use lib.Bits.{bitAnd, and-lt}
 use Rattle.cells.specs.Bit.{bit}
 use Rattle.cells.specs.Digit.{unitOf, signOf}
 use Rattle.cells.specs.Pair.{digit, LegalPair, Holds}
-use Rattle.cells.proofs.BitLaws.{bit-lt, bit-and}
+use Rattle.cells.proofs.BitLaws.{bit-lt}
 use Rattle.cells.proofs.WordLaws.{ext}
 
 pub unit-lt : (n : ℕ) → unitOf n < 2
@@ -31,12 +30,3 @@ module _ (f : ℕ → ℕ) (u s : ℕ) (h : Holds f u s) where
 pub same : (f : ℕ → ℕ) (u s v r : ℕ) → Holds f u s → Holds f v r → u < 2 ^ 64 → s < 2 ^ 64 → v < 2 ^ 64 → r < 2 ^ 64 → (u ≡ v) × (s ≡ r)
 same f u s v r h k hu hs hv hr =
     (ext 64 u v hu hv (λ t l. unit-bit f u s h t ∙ sym (unit-bit f v r k t)), ext 64 s r hs hr (λ t l. sign-bit f u s h t ∙ sym (sign-bit f v r k t)))
-
--- a test of two words shows that they are legal
-pub legal-and : (u s : ℕ) → bitAnd u s ≡ s → LegalPair u s
-unfolding LegalPair
-legal-and u s e t = omega (arith, ap (λ (w : ℕ). bit w t) e, bit-and u s t)
-
-pub and-legal : (u s : ℕ) → u < 2 ^ 64 → s < 2 ^ 64 → LegalPair u s → bitAnd u s ≡ s
-unfolding LegalPair
-and-legal u s hu hs h = ext 64 (bitAnd u s) s (and-lt 64 u s hu hs) hs (λ t l. omega (arith, bit-and u s t, h t))

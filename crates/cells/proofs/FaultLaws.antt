@@ -13,7 +13,7 @@ use Rattle.cells.specs.Bit.{bit}
 use Rattle.cells.specs.Pair.{digit}
 use Rattle.cells.proofs.AnyLaws.{any-none, any-at}
 use Rattle.cells.proofs.BitLaws.{bit-lt, bits, bit-and, bit-or, bit-xor}
-use Rattle.cells.proofs.WordLaws.{ext, bit-shr, bit-not, bit-high, bit-of-zero}
+use Rattle.cells.proofs.WordLaws.{ext, bit-shr, bit-high, bit-of-zero}
 use Rattle.cells.proofs.MaskLaws.{low-in, low-out, low-lt}
 
 -- a sign bit without a unit bit

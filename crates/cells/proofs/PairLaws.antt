@@ -1,11 +1,9 @@
 -- Laws of legal pairs of words. Assumes nothing.
 use mathlib.Core.Path.{_≡_, refl, _∙_}
-use Prim.Native.Nat.{ℕ, zero, suc, _+_, _-_, _*_, _%_, _^_, _≤_, _<_}
+use Prim.Native.Nat.{ℕ, zero, suc, _-_, _≤_, _<_}
 use native.Mathlib.Omega.{arith}
-use Rattle.cells.specs.Bit.{bit}
 use Rattle.cells.specs.Pair.{digit, LegalPair, Holds}
-use Rattle.cells.proofs.BitLaws.{bit-lt}
-use Rattle.cells.proofs.WordLaws.{bit-high, bit-of-zero}
+use Rattle.cells.proofs.WordLaws.{bit-of-zero}
 
 -- a property of the three legal cells is one of every legal cell
 pub cases : (P : ℕ → ℕ → Type 0) → P 0 0 → P 1 0 → P 1 1 → (u s : ℕ) → u < 2 → s ≤ u → P u s
@@ -15,10 +13,6 @@ cases P p q r (suc zero) zero h l = q
 cases P p q r (suc zero) (suc zero) h l = r
 cases P p q r (suc zero) (suc (suc s)) h l = absurd (omega arith)
 cases P p q r (suc (suc u)) s h l = absurd (omega arith)
-
-pub digit-lt : (u s t : ℕ) → LegalPair u s → digit u s t < 3
-unfolding LegalPair digit
-digit-lt u s t h = omega (arith, h t, bit-lt u t)
 
 -- words hold their own digits
 pub holds-self : (u s : ℕ) → LegalPair u s → Holds (digit u s) u s
@@ -35,8 +29,3 @@ legal-none t = omega arith
 pub digit-none : (t : ℕ) → digit 0 0 t ≡ 0
 unfolding digit
 digit-none t = omega (arith, bit-of-zero t)
-
--- there is no digit past the 64 places
-pub digit-high : (u s t : ℕ) → u < 2 ^ 64 → s < 2 ^ 64 → 64 ≤ t → digit u s t ≡ 0
-unfolding digit
-digit-high u s t hu hs l = omega (arith, bit-high 64 u t hu l, bit-high 64 s t hs l)

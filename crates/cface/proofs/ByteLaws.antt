@@ -15,10 +15,6 @@ use Rattle.cface.specs.Bytes.{byteOf, valueOf, wordsIn, bytesOf}
 
 -- ---- one word
 
-pub byte-lt : (w k : ℕ) → byteOf w k < 256
-unfolding byteOf
-byte-lt w k = omega arith
-
 -- a word without its lowest j bytes
 pub byte-later : (w j k : ℕ) → byteOf (w / 2 ^ (8 * j)) k ≡ byteOf w (j + k)
 unfolding byteOf

@@ -6,7 +6,7 @@ use Prim.Native.Nat.{ℕ, _+_, _*_, _≤_, _/_}
 use native.Mathlib.Omega.{arith}
 use lib.Dec.{ltb, eqb}
 use lib.ListN.{length}
-use borrow.Author.Tests.{ltb-false, eq-eqb, ne-eqb, eqb-true, not-false}
+use borrow.Author.Tests.{ltb-false, ne-eqb, eqb-true, not-false}
 use Rattle.cells.proofs.AnyLaws.{or-left, or-right}
 use Rattle.buffers.specs.Buffer.{words}
 use Rattle.requests.specs.declared.Size.{Size}

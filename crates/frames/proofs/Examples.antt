@@ -1,13 +1,12 @@
 -- Lines worked out: the statements compute to what document 01 shows. Assumes nothing.
 use mathlib.Core.Path.{_≡_, refl}
-use mathlib.Core.List.{List, [], _∷_}
-use Prim.Native.Nat.{ℕ}
+use mathlib.Core.List.{[], _∷_}
 use Rattle.requests.specs.Answers.{first, left, answered}
 use Rattle.requests.specs.Sizes.{over}
 use Rattle.buffers.specs.Buffer.{planes, wide, tab, joined}
 use Rattle.cells.specs.Any.{any}
 use Rattle.frames.specs.Hex.{pick, digitOf, byteOf, nibble, hexOf, valueOf, undigit, unframed}
-use Rattle.frames.specs.Header.{headerOf, sizeOf, readHeaderTests, readHeaderMeans, writeHeaderTests, writeHeaderMeans}
+use Rattle.frames.specs.Header.{headerOf, sizeOf, readHeaderTests, readHeaderMeans}
 use Rattle.frames.specs.RowLine.{lineOf, wordsOf, readRowTests, readRowMeans, writeRowTests, writeRowMeans}
 
 -- 00020003 is the header of 2 rows and 3 columns

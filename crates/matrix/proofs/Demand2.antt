@@ -1,8 +1,7 @@
 -- Demand 2: what is done is right. Each result is legal and holds the digits that it is to hold, and no other words do. Assumes nothing.
-use mathlib.Core.Path.{_≡_, refl, sym, ap, _∙_}
+use mathlib.Core.Path.{_≡_, sym, _∙_}
 use mathlib.Core.List.{List}
 use Prim.Native.Nat.{ℕ, _<_, _+_, _*_, _%_}
-use native.Mathlib.Omega.{arith}
 use lib.ListN.{length, getD}
 use Rattle.cells.specs.Digit.{Matrix, add3, sub3, neg3, mul3}
 use Rattle.buffers.specs.Buffer.{cell, Legal, Words, encode}

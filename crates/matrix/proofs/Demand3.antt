@@ -2,9 +2,9 @@
 -- budgets the job stands at the smaller of the budgets' sum and the list's length, and its table and product hold exactly what that many
 -- first steps leave. At the end the product is the schoolbook one, and the length never exceeds the quote. Assumes nothing.
 use mathlib.Core.Path.{_≡_, refl, sym, ap, ap₂, subst, _∙_}
-use mathlib.Core.Bool.{Bool, true, false, not, _||_}
-use mathlib.Core.List.{List, [], _∷_, _++_}
-use Prim.Native.Nat.{ℕ, zero, suc, _+_, _-_, _^_, _≤_, _<_, min}
+use mathlib.Core.Bool.{Bool, true}
+use mathlib.Core.List.{List, [], _∷_}
+use Prim.Native.Nat.{ℕ, zero, suc, _+_, _-_, _^_, _≤_, min}
 use native.Mathlib.Omega.{arith}
 use lib.Dec.{ltb, eqb}
 use lib.ListN.{length}
@@ -16,11 +16,11 @@ use Rattle.buffers.proofs.BufferLaws.{tests-legal, cell-encode, encode-legal, e
 use Rattle.requests.specs.declared.Size.{Size}
 use Rattle.requests.specs.declared.Answer.{Answer}
 use Rattle.requests.specs.Answers.{number, first, answered}
-use Rattle.requests.specs.Sizes.{over, unfit, faults}
+use Rattle.requests.specs.Sizes.{over, faults}
 use Rattle.requests.proofs.SizeLaws.{not-over, not-unfit}
-use Rattle.requests.proofs.AnswerLaws.{None, none-first, append-none, append-front, later, finished, done-makes}
+use Rattle.requests.proofs.AnswerLaws.{none-first, append-none, append-front, later, finished, done-makes}
 use Rattle.steps.specs.Matrix.{sum, schoolbook}
-use Rattle.steps.specs.Step.{Step, State, run, opening}
+use Rattle.steps.specs.Step.{State, run, opening}
 use Rattle.steps.specs.StepList.{steps}
 use Rattle.steps.specs.Count.{quote, total}
 use Rattle.steps.specs.Turn.{after, allBudgets}
@@ -32,11 +32,11 @@ use Rattle.steps.proofs.Turns.{resume-same, after-all}
 use Rattle.walk.specs.Due.{due}
 use Rattle.walk.specs.Ran.{found}
 use Rattle.matrix.specs.declared.job.Job.{Job}
-use Rattle.matrix.specs.Job.{meant, tableSize, productSize, misfit, totalOf, countless}
+use Rattle.matrix.specs.Job.{meant, tableSize, productSize, misfit, totalOf}
 use Rattle.matrix.specs.Opening.{fittingTests, openingTests, newJob, openingMeans}
-use Rattle.matrix.specs.Turn.{sizeA, sizeB, foundTests, turnTests, madeOf, leftOf, onJob, turnMeans}
+use Rattle.matrix.specs.Turn.{sizeA, sizeB, foundTests, turnTests, madeOf, leftOf, turnMeans}
 use Rattle.matrix.specs.Product.{endOf, productMeans}
-use Rattle.matrix.proofs.JobLaws.{meant-pos, meant-le, table-small, product-small, Fitting, fitting-ready, fitting-positive, found-positive}
+use Rattle.matrix.proofs.JobLaws.{meant-pos, meant-le, Fitting, fitting-ready, fitting-positive, found-positive}
 
 -- turns that are given one after another: each is handed the record last answered and the same matrices, table and product, and is accepted
 pub data Turns (a b : List ℕ) : Job → List ℕ → List ℕ → List ℕ → Job → List ℕ → List ℕ → Type 0 where

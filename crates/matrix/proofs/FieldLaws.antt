@@ -1,6 +1,6 @@
 -- The laws that make sum, difference, negation, scaling and transpose those of matrices over the field of three elements. They hold for
 -- all sizes, and are stated of the buffers that the requests leave. Assumes nothing.
-use mathlib.Core.Path.{_≡_, refl, sym, ap, ap₂, _∙_}
+use mathlib.Core.Path.{_≡_, sym, ap, ap₂, _∙_}
 use mathlib.Core.List.{List}
 use Prim.Native.Nat.{ℕ, _+_, _*_, _/_, _%_, _<_}
 use native.Mathlib.Nat.{mul-comm, mul-assoc, add-mul, div-add-mod', add-mul-mod-self-right}

@@ -4,11 +4,10 @@ use Prim.Native.Nat.{ℕ, suc, _+_, _-_, _*_, _^_, _≤_, _<_}
 use native.Mathlib.Decide.{decLt}
 use native.Mathlib.Omega.{arith}
 use lib.Pow.{pow-mono}
-use lib.Dec.{ltb}
 use borrow.Author.Tests.{lt-ltb, le-ltb}
 use Rattle.cells.specs.Bit.{bit, wordOf}
 use Rattle.cells.specs.Digit.{unitOf, signOf}
-use Rattle.cells.specs.Pair.{digit, LegalPair, Holds, WordPair}
+use Rattle.cells.specs.Pair.{digit, LegalPair, WordPair}
 use Rattle.cells.proofs.WordLaws.{wordOf-lt, wordOf-bit, bit-high}
 use Rattle.cells.proofs.EncodeLaws.{unit-lt, sign-lt}
 use Rattle.cells.proofs.PairLaws.{holds-cong}

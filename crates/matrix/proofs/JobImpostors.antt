@@ -2,12 +2,12 @@
 -- that do not come from A. One cell by one cell at width 1 is enough: its list is a table step, and a plus where the cell holds 1. Each known
 -- sum is computed from the requests' own statements. Assumes nothing.
 use mathlib.Core.Path.{_≡_, refl, sym, ap, _∙_}
-use mathlib.Core.Bool.{Bool, true, false, not, _||_}
-use mathlib.Core.List.{List, [], _∷_, _++_}
-use Prim.Native.Nat.{ℕ, _+_, _-_, _*_, _/_, _^_, min}
+use mathlib.Core.Bool.{Bool, true, false, not}
+use mathlib.Core.List.{List, [], _∷_}
+use Prim.Native.Nat.{ℕ, _-_}
 use native.Mathlib.Omega.{arith}
 use lib.Count.{trailingZeros}
-use lib.ListN.{getD, length, take, drop}
+use lib.ListN.{getD}
 use Rattle.cells.specs.Any.{any}
 use Rattle.cells.specs.Bit.{bit, wordOf}
 use Rattle.cells.specs.Counts.{is}

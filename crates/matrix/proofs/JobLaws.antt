@@ -1,7 +1,7 @@
 -- What the tests of jobs say where none of them holds. Assumes nothing.
 use mathlib.Core.Path.{_≡_, refl, sym, ap, ap₂, subst, _∙_}
-use mathlib.Core.Bool.{Bool, false, not, _||_}
-use mathlib.Core.List.{List, [], _∷_, _++_}
+use mathlib.Core.Bool.{Bool, false, _||_}
+use mathlib.Core.List.{List, [], _++_}
 use Prim.Native.Nat.{ℕ, zero, suc, _+_, _-_, _*_, _^_, _≤_, _<_, min}
 use native.Mathlib.Nat.{mul-le-mul}
 use native.Mathlib.Numerals.{add-one}
@@ -23,7 +23,7 @@ use Rattle.rows.specs.Row.{Written}
 use Rattle.steps.specs.Matrix.{sum}
 use Rattle.steps.specs.Step.{Step, State, run, opening}
 use Rattle.steps.specs.StepList.{blocks, blockWidth, steps}
-use Rattle.steps.specs.Count.{quote, total}
+use Rattle.steps.specs.Count.{quote}
 use Rattle.steps.proofs.Fits.{AllFit}
 use Rattle.steps.proofs.Counts.{quote-le, total-small}
 use Rattle.steps.proofs.Sums.{sum-none, sum-last, sum-mono}

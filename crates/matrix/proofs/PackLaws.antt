@@ -1,8 +1,8 @@
 -- The tests of `pack`, and the digits that it packs. Assumes nothing.
-use mathlib.Core.Path.{_≡_, refl, sym, ap, ap₂, _∙_}
-use mathlib.Core.Bool.{Bool, true, false, not, _||_}
+use mathlib.Core.Path.{_≡_, refl, ap, _∙_}
+use mathlib.Core.Bool.{Bool, false, _||_}
 use mathlib.Core.List.{List}
-use Prim.Native.Nat.{ℕ, suc, _+_, _-_, _*_, _≤_, _<_, min, max}
+use Prim.Native.Nat.{ℕ, _+_, _-_, _*_, _≤_, _<_, min, max}
 use native.Mathlib.Nat.{mul-le-mul, mul-le-mul-right, suc-mul}
 use native.Mathlib.Numerals.{add-one}
 use native.Mathlib.Decide.{decLt}
@@ -15,7 +15,7 @@ use Rattle.cells.proofs.AnyLaws.{any-at, or-left, or-right}
 use Rattle.buffers.specs.Buffer.{planes, words, encode}
 use Rattle.requests.specs.declared.Size.{Size}
 use Rattle.requests.specs.Answers.{first}
-use Rattle.requests.specs.Sizes.{over, unfit}
+use Rattle.requests.specs.Sizes.{unfit}
 use Rattle.requests.proofs.SizeLaws.{over-rows, over-columns, unfit-long}
 use Rattle.requests.proofs.AnswerLaws.{None, first-none}
 use Rattle.rows.proofs.MatrixLaws.{RowsMade, rows-all}

@@ -1,11 +1,10 @@
 -- Digits packed and unpacked come back the same, both ways, for all sizes. Assumes nothing.
-use mathlib.Core.Path.{_≡_, refl, sym, ap, _∙_}
+use mathlib.Core.Path.{_≡_, sym, _∙_}
 use mathlib.Core.List.{List}
 use Prim.Native.Nat.{ℕ, _+_, _*_, _<_}
-use native.Mathlib.Omega.{arith}
 use lib.ListN.{length, getD}
 use Rattle.cells.specs.Digit.{Matrix}
-use Rattle.buffers.specs.Buffer.{cell, Legal, Words, encode, tab, joined}
+use Rattle.buffers.specs.Buffer.{cell, Legal, Words, encode, tab}
 use Rattle.buffers.proofs.BufferLaws.{cell-encode, encode-cell, encode-within, getD-joined, getD-tab, length-tab}
 use Rattle.matrix.specs.Unpacked.{byteAt, bytes}
 use Rattle.matrix.specs.Pack.{packOf}

@@ -1,11 +1,11 @@
 -- The columns of a row of a matrix are the row's. Assumes nothing.
-use mathlib.Core.Path.{_≡_, sym, ap, ap₂, _∙_}
+use mathlib.Core.Path.{_≡_, ap}
 use mathlib.Core.List.{List, [], _∷_}
-use Prim.Native.Nat.{ℕ, _+_, _*_}
+use Prim.Native.Nat.{ℕ, _*_}
 use native.Mathlib.Nat.{zero-mul}
 use native.Mathlib.Omega.{arith}
 use Rattle.cells.specs.Counts.{sumTo, is}
-use Rattle.buffers.specs.Buffer.{planes, wide, Words, bitAt, unit, sign, cell, Legal}
+use Rattle.buffers.specs.Buffer.{planes, wide, Words, unit, sign, cell, Legal}
 use Rattle.rows.specs.Row.{Readable}
 use Rattle.rows.specs.Tally.{column, columnsWith, tallyRow}
 use Rattle.rows.proofs.MatrixLaws.{row-readable}

@@ -1,16 +1,15 @@
 -- The tests of a request over two matrices. Assumes nothing.
-use mathlib.Core.Path.{_≡_, refl, sym, ap, _∙_}
-use mathlib.Core.Bool.{Bool, true, false, not, _||_}
-use mathlib.Core.List.{List, [], _∷_, _++_}
+use mathlib.Core.Path.{_≡_}
+use mathlib.Core.Bool.{false, not, _||_}
+use mathlib.Core.List.{List}
 use Prim.Native.Nat.{ℕ, _≤_}
-use native.Mathlib.Omega.{arith}
 use lib.Dec.{T, eqb}
 use lib.ListN.{length}
 use borrow.Author.Tests.{eqb-true, not-false}
 use Rattle.cells.proofs.AnyLaws.{or-left, or-right}
 use Rattle.requests.specs.declared.Size.{Size}
 use Rattle.buffers.specs.Buffer.{words, Legal}
-use Rattle.requests.specs.Answers.{Tests, first}
+use Rattle.requests.specs.Answers.{first}
 use Rattle.requests.specs.Sizes.{over, unfit, faults}
 use Rattle.requests.specs.Pair.{unequal, unfits, pairTests}
 use Rattle.requests.proofs.SizeLaws.{over-rows, over-columns, unfit-long}
@@ -20,13 +19,6 @@ use Rattle.buffers.proofs.BufferLaws.{legal-tests}
 pub faults-positive : (s : Size) (ws : List ℕ) → T (positive (faults s ws))
 unfolding faults
 faults-positive s ws = tt
-
--- no fault: the buffer is legal
-pub faultless : (s : Size) (ws : List ℕ) → unfit s (length ws) ≡ false → first (faults s ws) ≡ 0 → Legal (s .rows) (s .columns) ws
-unfolding faults
-faultless s ws u z =
-    let n : None (faults s ws) = first-none (faults s ws) (faults-positive s ws) z in
-    legal-tests _ _ ws (unfit-long s (length ws) u) (n .0) (n .1 .0)
 
 module _ (x y : Size) (l m n : ℕ) (h : unfits x y l m n ≡ false) where
   pub fits-a : unfit x l ≡ false

@@ -1,7 +1,7 @@
 -- The bits of a block, taken from one word or from two. Assumes nothing.
 use mathlib.Core.Path.{_≡_, refl, sym, ap, ap₂, _∙_}
 use mathlib.Core.List.{List}
-use Prim.Native.Nat.{ℕ, zero, suc, _+_, _-_, _*_, _/_, _%_, _^_, _≤_, _<_, min, max}
+use Prim.Native.Nat.{ℕ, zero, suc, _+_, _-_, _*_, _/_, _%_, _^_, _≤_, _<_, max}
 use native.Mathlib.Decide.{decLt}
 use native.Mathlib.Omega.{arith}
 use lib.ListN.{getD}
@@ -10,8 +10,8 @@ use Rattle.cells.specs.Bit.{bit, wordOf}
 use Rattle.cells.specs.Counts.{is}
 use Rattle.cells.specs.Pair.{LegalPair}
 use Rattle.cells.proofs.BitLaws.{bit-lt, bit-and, bit-or, bit-xor}
-use Rattle.cells.proofs.WordLaws.{ext, bit-shr, bit-mod, bit-high, bit-shl-low, bit-shl-high, wordOf-lt, wordOf-bit, wordOf-unique}
-use Rattle.cells.proofs.MaskLaws.{low-in, low-out}
+use Rattle.cells.proofs.WordLaws.{bit-shr, bit-mod, bit-high, bit-shl-low, bit-shl-high, wordOf-lt, wordOf-bit, wordOf-unique}
+use Rattle.cells.proofs.MaskLaws.{low-in}
 use Rattle.cells.proofs.PairLaws.{cases}
 use Rattle.buffers.specs.Buffer.{bitAt}
 use Rattle.buffers.proofs.SizeLaws.{bitAt-lt}

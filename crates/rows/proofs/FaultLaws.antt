@@ -1,18 +1,18 @@
 -- The faults of a row, from the tests of its pairs of words. Assumes nothing.
-use mathlib.Core.Path.{_≡_, refl, sym, ap, ap₂, _∙_}
+use mathlib.Core.Path.{_≡_, refl, sym, ap, _∙_}
 use mathlib.Core.Bool.{Bool, true, false, _||_}
 use mathlib.Core.List.{List}
-use Prim.Native.Nat.{ℕ, zero, suc, _+_, _-_, _*_, _/_, _%_, _^_, _≤_, _<_, min, max}
+use Prim.Native.Nat.{ℕ, zero, suc, _+_, _-_, _*_, _/_, _%_, _^_, _≤_, _<_, max}
 use native.Mathlib.Decide.{decLt}
 use native.Mathlib.Omega.{arith}
 use lib.Dec.{ltb}
 use lib.ListN.{getD}
-use lib.Bits.{bitAnd, bitOr, bitXor, differ, and-lt, xor-lt}
+use lib.Bits.{bitAnd, bitOr, bitXor, and-lt, xor-lt}
 use Rattle.cells.specs.Any.{any}
 use Rattle.cells.specs.Bit.{bit}
 use Rattle.cells.specs.Pair.{digit, LegalPair}
 use Rattle.cells.proofs.AnyLaws.{any-none, any-at, any-split, any-cong, or-yes}
-use Rattle.cells.proofs.BitLaws.{bit-lt, bit-and, bit-or, bit-xor}
+use Rattle.cells.proofs.BitLaws.{bit-lt, bit-and, bit-or}
 use Rattle.cells.proofs.WordLaws.{ext, bit-high, bit-of-zero}
 use Rattle.cells.proofs.MaskLaws.{low-in}
 use Rattle.cells.proofs.FaultLaws.{stray-none, stray-some}

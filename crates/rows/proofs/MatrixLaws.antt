@@ -1,15 +1,15 @@
 -- Matrices that are made row by row, and what they are. Assumes nothing.
-use mathlib.Core.Path.{_≡_, refl, sym, ap, ap₂, subst, _∙_}
+use mathlib.Core.Path.{_≡_, refl, sym, ap, ap₂, _∙_}
 use mathlib.Core.List.{List}
-use Prim.Native.Nat.{ℕ, zero, suc, _+_, _-_, _*_, _^_, _≤_, _<_}
+use Prim.Native.Nat.{ℕ, suc, _+_, _-_, _*_, _≤_, _<_}
 use native.Mathlib.Nat.{suc-mul, mul-le-mul-right}
 use native.Mathlib.Decide.{decLt}
 use native.Mathlib.Omega.{arith}
 use lib.ListN.{length, getD}
-use Rattle.cells.specs.Pair.{digit, LegalPair, WordPair}
+use Rattle.cells.specs.Pair.{WordPair}
 use Rattle.cells.specs.Digit.{Matrix}
 use Rattle.buffers.specs.Buffer.{planes, wide, words, unit, sign, cell, Legal, Words, encode}
-use Rattle.buffers.proofs.SizeLaws.{wide-is, row-in, row-fits}
+use Rattle.buffers.proofs.SizeLaws.{row-fits}
 use Rattle.buffers.proofs.BufferLaws.{shown, cell-word, word-legal}
 use Rattle.rows.specs.Tally.{column}
 use Rattle.rows.specs.Row.{digitAt, LegalRow, of1, of2, Made, Readable}

@@ -1,18 +1,17 @@
 -- The columns of a row that hold a digit, counted word by word. Assumes nothing.
-use mathlib.Core.Path.{_≡_, refl, sym, ap, ap₂, _∙_}
-use mathlib.Core.List.{List, [], _∷_}
-use Prim.Native.Nat.{ℕ, zero, suc, _+_, _-_, _*_, _/_, _%_, _^_, _≤_, _<_, min}
+use mathlib.Core.Path.{_≡_, sym, ap, ap₂, _∙_}
+use mathlib.Core.List.{List}
+use Prim.Native.Nat.{ℕ, zero, suc, _+_, _-_, _*_, _^_, _≤_, _<_, min}
 use native.Mathlib.Omega.{arith}
 use lib.ListN.{getD}
 use Rattle.cells.specs.Bit.{bit}
 use Rattle.cells.specs.Counts.{sumTo, is, count}
-use Rattle.cells.specs.Pair.{digit, LegalPair}
+use Rattle.cells.specs.Pair.{digit}
 use Rattle.cells.proofs.MaskLaws.{low-in, low-out}
 use Rattle.cells.proofs.CountLaws.{sumTo-none, sumTo-below, sumTo-split, sumTo-zero}
-use Rattle.buffers.specs.Buffer.{planes, bitAt}
+use Rattle.buffers.specs.Buffer.{planes}
 use Rattle.buffers.proofs.SizeLaws.{planes-room, planes-tight, bitAt-word}
-use Rattle.rows.specs.Row.{LegalRow}
-use Rattle.rows.specs.Tally.{column, columnsWith, tallyRow}
+use Rattle.rows.specs.Tally.{column, columnsWith}
 
 -- column 64 p + t is place t of pair p
 pub column-word : (ws : List ℕ) (x q p t : ℕ) → t < 64 → column ws x q (64 * p + t) ≡ digit (getD ws (x + p) 0) (getD ws (x + p + q) 0) t

@@ -77,8 +77,3 @@ width-pos l k b pos h = omega (arith, blocks-within l k b pos h)
 pub width-le : (l k b : ℕ) → blockWidth l k b ≤ k
 unfolding blockWidth
 width-le l k b = omega arith
-
--- every block but the last has the full width
-pub width-full : (l k b : ℕ) → 0 < k → suc b < blocks l k → blockWidth l k b ≡ k
-unfolding blockWidth
-width-full l k b pos h = omega (arith, blocks-within l k (suc b) pos h)

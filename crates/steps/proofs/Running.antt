@@ -1,14 +1,11 @@
 -- Running a list of steps. Assumes nothing.
 use Prim.Native.Nat.{ℕ, zero, suc, _+_, _-_, _≤_, _<_}
-use mathlib.Core.Path.{_≡_, refl, sym, _∙_}
+use mathlib.Core.Path.{_≡_, refl}
 use mathlib.Core.Logic.{_≢_}
 use mathlib.Core.Bool.{Bool, true, false}
 use mathlib.Core.List.{List, [], _∷_, _++_}
 use native.Mathlib.Omega.{arith}
-use native.Mathlib.Decide.{ℕ-discrete}
 use lib.Dec.{eqb, eqb→eq, eqb-refl, T}
-use lib.ListN.{take, drop}
-use lib.Seq.{take-add}
 use Rattle.cells.specs.Digit.{Matrix, add3, sub3}
 use Rattle.steps.specs.Matrix.{Row}
 use Rattle.steps.specs.Step.{Step, tableStep, plus, minus, State, put, apply, run, opening}
@@ -35,14 +32,6 @@ pub put-other : (M : Matrix) (x : ℕ) (r : Row) (i j : ℕ) → i ≢ x → put
 unfolding put
 put-other M x r i j n = rw (ne-false i x n, put)
 
--- of two rows put at one place the later stays
-pub put-put : (M : Matrix) (x : ℕ) (r r′ : Row) (i j : ℕ) → put (put M x r) x r′ i j ≡ put M x r′ i j
-put-put M x r r′ i j = go (ℕ-discrete i x)
-  where
-    go : Dec (i ≡ x) → put (put M x r) x r′ i j ≡ put M x r′ i j
-    go (yes e) = rw e (put-same _ x r′ j ∙ sym (put-same M x r′ j))
-    go (no ne) = put-other _ x r′ i j ne ∙ put-other M x r i j ne ∙ sym (put-other M x r′ i j ne)
-
 -- what holds of the new row's cells, and of the other rows', holds of all
 pub put-all : (Q : ℕ → Type 0) (M : Matrix) (x : ℕ) (r : Row) → ((j : ℕ) → Q (r j)) → ((i j : ℕ) → Q (M i j)) → (i j : ℕ) → Q (put M x r i j)
 unfolding put
@@ -64,18 +53,6 @@ each-holds B f Q e h s le = go (e - s) s (omega arith)
     go : (n s : ℕ) → s + n ≡ e → (st : State) → Q s st → Q e (run B (many s n f) st)
     go zero s q st p = let q′ : s ≡ e = omega arith in rw q′ at p
     go (suc n) s q st p = rw run-append (go n (suc s) (omega arith) (run B (f s) st) (h s (omega arith) st p))
-
--- the next step of a budget that allows one
-pub run-next : (B : Matrix) {ps qs : List Step} {p : Step} (n : ℕ) (st : State) → ps ≡ p ∷ qs
-    → run B (take (suc n) ps) st ≡ run B (take n qs) (apply B p st)
-unfolding run
-run-next B n st e = rw e
-
--- one step more, after n of them
-pub run-last : (B : Matrix) (ps : List Step) {qs : List Step} {p : Step} (n : ℕ) (st : State) → drop n ps ≡ p ∷ qs
-    → run B (take (suc n) ps) st ≡ apply B p (run B (take n ps) st)
-unfolding run
-run-last B ps n st e = let q : suc n ≡ n + 1 = omega arith in rw (q, take-add, run-append, e)
 
 -- ---- every state on the way is made of digits
 

@@ -1,7 +1,6 @@
 -- Theorems: the list is made from A's own cells, and running it takes only the cells within the sizes. Assumes nothing.
 use Prim.Native.Nat.{ℕ, _+_, _*_, _^_, _≤_, _<_}
-use mathlib.Core.Path.{_≡_, refl, sym, _∙_}
-use mathlib.Core.Logic.{_≢_}
+use mathlib.Core.Path.{_≡_, sym, _∙_}
 use mathlib.Core.List.{List, [], _∷_}
 use native.Mathlib.Omega.{arith}
 use native.Mathlib.Decide.{ℕ-discrete}
@@ -37,18 +36,6 @@ pub record SameState (k m n : ℕ) (st st′ : State) : Type 0 where
   pub table : SameCells (2 ^ k) n (st .table) (st′ .table)
   pub product : SameCells m n (st .product) (st′ .product)
 
-pub same-state : (k m n : ℕ) (st : State) → SameState k m n st st
-same-state k m n st = record { table = λ i j _ _. refl; product = λ i j _ _. refl }
-
-pub same-sym : (k m n : ℕ) (st st′ : State) → SameState k m n st st′ → SameState k m n st′ st
-same-sym k m n st st′ h = record { table = λ i j p q. sym (h .table i j p q); product = λ i j p q. sym (h .product i j p q) }
-
-pub same-trans : (k m n : ℕ) (st st′ st″ : State) → SameState k m n st st′ → SameState k m n st′ st″ → SameState k m n st st″
-same-trans k m n st st′ st″ g h = record {
-  table = λ i j p q. g .table i j p q ∙ h .table i j p q;
-  product = λ i j p q. g .product i j p q ∙ h .product i j p q;
-}
-
 pub put-cells : (r n : ℕ) (M M′ : Matrix) (x : ℕ) (row row′ : Row) → SameCells r n M M′ → ((j : ℕ) → j < n → row j ≡ row′ j)
     → SameCells r n (put M x row) (put M′ x row′)
 put-cells r n M M′ x row row′ old new i j p q = go (ℕ-discrete i x)
@@ -56,15 +43,6 @@ put-cells r n M M′ x row row′ old new i j p q = go (ℕ-discrete i x)
     go : Dec (i ≡ x) → put M x row i j ≡ put M′ x row′ i j
     go (yes e) = rw e (put-same M x row j ∙ new j q ∙ sym (put-same M′ x row′ j))
     go (no ne) = put-other M x row i j ne ∙ old i j p q ∙ sym (put-other M′ x row′ i j ne)
-
--- a matrix whose row x is r and whose other rows are M's is M with r put at x
-pub put-made : (r n : ℕ) (M new : Matrix) (x : ℕ) (row : Row) → ((j : ℕ) → j < n → new x j ≡ row j)
-    → ((i j : ℕ) → i < r → i ≢ x → j < n → new i j ≡ M i j) → SameCells r n new (put M x row)
-put-made r n M new x row here there i j p q = go (ℕ-discrete i x)
-  where
-    go : Dec (i ≡ x) → new i j ≡ put M x row i j
-    go (yes e) = rw e (here j q ∙ sym (put-same M x row j))
-    go (no ne) = there i j p ne q ∙ sym (put-other M x row i j ne)
 
 module _ (k m l n : ℕ) (B B′ : Matrix) (sameB : SameCells l n B B′) where
   pub apply-same : (p : Step) (st st′ : State) → Fits m l k p → SameState k m n st st′ → SameState k m n (apply B p st) (apply B′ p st′)

@@ -3,8 +3,7 @@ use Prim.Native.Nat.{ℕ, zero, suc, _+_, _-_, _*_, _%_, _≤_, _<_}
 use mathlib.Core.Path.{_≡_, refl}
 use native.Mathlib.Omega.{arith}
 use native.Mathlib.Nat.{le-refl, zero-add, add-zero, suc-add, add-suc, add-mul-mod-self-right}
-use Rattle.cells.specs.Digit.{Matrix}
-use Rattle.steps.specs.Matrix.{SameCells, sum, schoolbook}
+use Rattle.steps.specs.Matrix.{sum, schoolbook}
 
 pub sum-add : (f : ℕ → ℕ) (a b s : ℕ) → sum s (a + b) f ≡ sum s a f + sum (s + a) b f
 unfolding sum
@@ -51,13 +50,3 @@ pub congruent : (x y q : ℕ) → y ≡ x + q * 3 → x % 3 ≡ y % 3
 congruent x y q e = rw (e, add-mul-mod-self-right)
 
 -- ---- the schoolbook product
-
-pub schoolbook-digits : (l : ℕ) (A B : Matrix) (i n : ℕ) → schoolbook l A B i n < 3
-unfolding schoolbook
-schoolbook-digits l A B i n = omega arith
-
-pub schoolbook-same : (m l n : ℕ) (A A′ B B′ : Matrix) → SameCells m l A A′ → SameCells l n B B′
-    → SameCells m n (schoolbook l A B) (schoolbook l A′ B′)
-unfolding schoolbook
-schoolbook-same m l n A A′ B B′ a b i j p q =
-    rw (sum-ext (λ t. A i t * B t j) (λ t. A′ i t * B′ t j) l 0 (λ t _ h. rw (a i t p (omega arith), b t j (omega arith) q)))

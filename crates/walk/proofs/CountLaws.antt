@@ -1,11 +1,11 @@
 -- Counts of steps from the bits of A's rows. Assumes nothing.
-use mathlib.Core.Path.{_≡_, refl, sym, ap, ap₂, _∙_}
+use mathlib.Core.Path.{_≡_, sym, ap, ap₂, _∙_}
 use mathlib.Core.List.{List}
-use Prim.Native.Nat.{ℕ, suc, _+_, _-_, _*_, _/_, _%_, _^_, _≤_, _<_, min}
+use Prim.Native.Nat.{ℕ, _+_, _-_, _*_, _%_, _^_, _≤_, _<_, min}
 use native.Mathlib.Numerals.{add-one}
 use native.Mathlib.Omega.{arith}
 use lib.Pow.{pow-mono}
-use Rattle.cells.specs.Bit.{bit, wordOf}
+use Rattle.cells.specs.Bit.{bit}
 use Rattle.cells.specs.Counts.{is}
 use Rattle.cells.specs.Digit.{Matrix}
 use Rattle.cells.proofs.WordLaws.{wordOf-lt, wordOf-bit}

@@ -1,20 +1,20 @@
 -- The pieces of the list that the code carries out, and how they join. Assumes nothing.
 use mathlib.Core.Path.{_≡_, refl, sym, ap, ap₂, subst, _∙_}
 use mathlib.Core.List.{List, [], _∷_, _++_, append-nil}
-use Prim.Native.Nat.{ℕ, zero, suc, _+_, _-_, _*_, _/_, _%_, _^_, _≤_, _<_, min}
+use Prim.Native.Nat.{ℕ, zero, suc, _+_, _-_, _*_, _^_, _≤_, _<_, min}
 use native.Mathlib.Numerals.{add-one}
 use native.Mathlib.Omega.{arith}
-use lib.Pow.{pow-mono, pow-pos}
+use lib.Pow.{pow-pos}
 use lib.ListN.{length, drop-of-length-le}
 use Rattle.cells.specs.Bit.{bit}
 use Rattle.cells.specs.Digit.{Matrix}
 use Rattle.cells.specs.Lowest.{Peels}
-use Rattle.buffers.specs.Buffer.{cell, Legal, Words}
-use Rattle.steps.specs.Step.{Step, tableStep, plus, minus, lowestBit, cleared}
-use Rattle.steps.specs.StepList.{P, N, unless0, each, tableSteps, rowSteps, blockSteps, blocks, blockWidth, blockAt, steps}
+use Rattle.buffers.specs.Buffer.{Legal, Words}
+use Rattle.steps.specs.Step.{Step, tableStep, minus, lowestBit, cleared}
+use Rattle.steps.specs.StepList.{unless0, each, tableSteps, rowSteps, blockSteps, blocks, blockWidth, blockAt, steps}
 use Rattle.steps.specs.Count.{countAt}
 use Rattle.steps.specs.Matrix.{sum}
-use Rattle.steps.proofs.Fits.{Fits, AllFit, fit-take, fit-drop, fit-each, fits-wider, table-step-fits, row-fits, block-fits, fit-wider}
+use Rattle.steps.proofs.Fits.{AllFit, fit-take, fit-drop, fit-each, table-step-fits, row-fits, block-fits, fit-wider}
 use Rattle.steps.proofs.Counts.{length-block}
 use Rattle.steps.proofs.Loops.{each-split, each-next, each-end, length-each, width-within, width-le}
 use Rattle.steps.proofs.LowestBit.{lowest-only, cleared-only}

@@ -1,20 +1,19 @@
 -- A row that is made in a buffer is a row that is put into the matrix it holds. Assumes nothing.
-use mathlib.Core.Path.{_≡_, refl, sym, ap, ap₂, _∙_}
+use mathlib.Core.Path.{_≡_, refl, sym, ap₂, _∙_}
 use mathlib.Core.Bool.{true, false}
 use mathlib.Core.List.{List}
 use Prim.Native.Nat.{ℕ, _+_, _*_, _≤_, _<_}
 use native.Mathlib.Decide.{decLt}
 use native.Mathlib.Omega.{arith}
 use lib.Dec.{eqb}
-use lib.ListN.{length, getD}
+use lib.ListN.{getD}
 use borrow.Author.Tests.{eq-eqb, ne-eqb}
-use Rattle.cells.specs.Digit.{Matrix}
-use Rattle.cells.specs.Pair.{digit, WordPair}
+use Rattle.cells.specs.Pair.{WordPair}
 use Rattle.cells.proofs.PairLaws.{holds-self, holds-cong}
-use Rattle.buffers.specs.Buffer.{planes, wide, words, cell, Legal, Words, encode}
+use Rattle.buffers.specs.Buffer.{planes, wide, cell, Legal, Words, encode}
 use Rattle.buffers.proofs.BufferLaws.{word-legal}
 use Rattle.rows.specs.Row.{digitAt, of2, Made}
-use Rattle.rows.proofs.MatrixLaws.{RowsMade, rows-all, row-ends, cell-digit}
+use Rattle.rows.proofs.MatrixLaws.{rows-all, row-ends, cell-digit}
 use Rattle.steps.specs.Matrix.{Row}
 use Rattle.steps.specs.Step.{put}
 use Rattle.steps.proofs.Running.{put-same, put-other}

@@ -1,17 +1,15 @@
 -- Steps on buffers, one after another. Assumes nothing.
-use mathlib.Core.Path.{_≡_, refl, sym, ap, subst, _∙_}
+use mathlib.Core.Path.{_≡_, refl, sym, ap, _∙_}
 use mathlib.Core.List.{List, [], _∷_, _++_}
-use Prim.Native.Nat.{ℕ, _+_, _*_, _^_, _≤_, _<_}
+use Prim.Native.Nat.{ℕ, _+_, _*_, _^_, _<_}
 use native.Mathlib.Omega.{arith}
-use lib.ListN.{length}
 use Rattle.cells.specs.Digit.{Matrix, add3, sub3}
 use Rattle.buffers.specs.Buffer.{planes, cell, Legal, Words, encode}
 use Rattle.buffers.proofs.SizeLaws.{cell-lt}
-use Rattle.buffers.proofs.BufferLaws.{cell-encode, encode-cell, encode-legal, encode-words, encode-within}
+use Rattle.buffers.proofs.BufferLaws.{cell-encode, encode-cell, encode-legal, encode-within}
 use Rattle.rows.specs.Row.{of2, Made}
-use Rattle.steps.specs.Matrix.{SameCells}
 use Rattle.steps.specs.Step.{Step, tableStep, plus, minus, State, lowestBit, cleared, apply, run}
-use Rattle.steps.proofs.Fits.{Fits, AllFit}
+use Rattle.steps.proofs.Fits.{AllFit}
 use Rattle.steps.proofs.Running.{StateDigits, run-append, run-digits}
 use Rattle.steps.proofs.Same.{SameState, run-same}
 use Rattle.walk.specs.Ran.{found, Ran}
@@ -32,12 +30,6 @@ module _ (k m n : ℕ) (B : Matrix) where
 
     pub ran-product : Legal m n p′
     ran-product = rw (R .product) (encode-legal m n (run B ps (found n t p) .product))
-
-    pub ran-table-words : Words t′
-    ran-table-words = rw (R .table) (encode-words (2 ^ k) n (run B ps (found n t p) .table))
-
-    pub ran-product-words : Words p′
-    ran-product-words = rw (R .product) (encode-words m n (run B ps (found n t p) .product))
 
     -- what is found afterwards is the state that the steps left, within the sizes
     pub ran-found : SameState k m n (found n t′ p′) (run B ps (found n t p))

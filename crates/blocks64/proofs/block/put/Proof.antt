@@ -1,5 +1,5 @@
 use mathlib.Core.Path.{_≡_, refl, subst}
-use Prim.Native.Nat.{ℕ, _+_, _*_, _≤_, _-_}
+use Prim.Native.Nat.{ℕ, _≤_, _-_}
 use lib.ListN.{getD}
 use Rattle.blocks64.specs.Block.{Spread}
 use Rattle.blocks64.proofs.BlockLaws.{spread-none, spread-next}

@@ -1,6 +1,4 @@
 -- Each count is the sum of the bits of its word. Assumes nothing.
-use mathlib.Core.Path.{_≡_, refl, ap, _∙_}
-use mathlib.Core.List.{List, [], _∷_}
 use Rattle.cells.proofs.CountLaws.{zeros-count, ones-count, twos-count, count-le}
 use native.Mathlib.Omega.{arith}
 use Rattle.cells.proofs.counts.counts.Statement.{statement}

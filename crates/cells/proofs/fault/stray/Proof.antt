@@ -1,5 +1,3 @@
-use mathlib.Core.Path.{sym, ap, _∙_}
-use lib.Bits.{bitAnd}
 use Rattle.cells.proofs.FaultLaws.{stray-none, stray-some}
 use borrow.Author.Needs.{needs}
 use native.Mathlib.Omega.{arith}

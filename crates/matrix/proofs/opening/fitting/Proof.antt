@@ -1,8 +1,6 @@
-use mathlib.Core.Path.{_≡_, sym, _∙_}
-use Prim.Native.Nat.{_≤_}
+use mathlib.Core.Path.{sym, _∙_}
 use borrow.Author.Tests.{eq-eqb, ne-eqb, lt-ltb, le-ltb}
 use Rattle.cells.proofs.AnyLaws.{or-left, or-right}
-use lib.ListN.{length}
 use Rattle.requests.specs.Answers.{first}
 use Rattle.requests.specs.Sizes.{over, faults}
 use Rattle.requests.proofs.AnswerLaws.{append-given, append-none}

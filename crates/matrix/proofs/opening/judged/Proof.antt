@@ -1,4 +1,4 @@
-use mathlib.Core.Path.{_≡_, sym, _∙_}
+use mathlib.Core.Path.{sym, _∙_}
 use Rattle.matrix.proofs.JobLaws.{opening-first}
 use borrow.Author.Needs.{needs}
 use Rattle.matrix.proofs.opening.judged.Statement.{statement}

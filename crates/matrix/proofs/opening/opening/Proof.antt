@@ -1,10 +1,9 @@
-use mathlib.Core.Path.{_≡_, sym, ap₂, _∙_}
-use mathlib.Core.List.{List, _++_}
+use mathlib.Core.Path.{sym, ap₂, _∙_}
+use mathlib.Core.List.{List}
 use Prim.Native.Nat.{ℕ, _^_}
 use lib.ListN.{length}
 use Rattle.buffers.proofs.BufferLaws.{zeros-encode}
 use Rattle.requests.specs.declared.Size.{Size}
-use Rattle.requests.specs.Answers.{first}
 use Rattle.requests.proofs.AnswerLaws.{refused, finished, append-front}
 use Rattle.matrix.specs.declared.job.Job.{Job}
 use Rattle.matrix.specs.Job.{meant, totalOf, countless}

@@ -1,7 +1,7 @@
-use mathlib.Core.Path.{_≡_, refl, subst, _∙_}
+use mathlib.Core.Path.{_≡_, subst}
 use Prim.Native.Nat.{ℕ, _+_, _-_, _*_, _≤_, min}
 use lib.ListN.{getD}
-use Rattle.buffers.proofs.SizeLaws.{planes-le, planes-room, planes-tight}
+use Rattle.buffers.proofs.SizeLaws.{planes-le, planes-tight}
 use Rattle.rows.specs.Row.{Made}
 use Rattle.rows.proofs.RowLaws.{made-none, made-next}
 use Rattle.cells.specs.Pair.{WordPair}

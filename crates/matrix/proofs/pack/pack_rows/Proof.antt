@@ -1,5 +1,5 @@
 use mathlib.Core.Path.{_≡_, _∙_}
-use Prim.Native.Nat.{ℕ, _+_, _-_, _*_, _≤_, min}
+use Prim.Native.Nat.{_+_, _-_, _*_, _≤_, min}
 use lib.ListN.{length, getD}
 use Rattle.buffers.proofs.SizeLaws.{planes-le, words-le, row-fits}
 use Rattle.rows.proofs.MatrixLaws.{RowsMade, rows-none, rows-more}

@@ -1,12 +1,8 @@
-use mathlib.Core.Path.{_≡_, sym, ap, ap₂, subst, _∙_}
+use mathlib.Core.Path.{sym, ap₂, _∙_}
 use mathlib.Core.List.{List}
-use Prim.Native.Nat.{ℕ, _^_, _≤_, _<_}
+use Prim.Native.Nat.{ℕ}
 use lib.ListN.{length}
-use Rattle.buffers.specs.Buffer.{cell, encode}
-use Rattle.requests.specs.Answers.{first}
 use Rattle.requests.proofs.AnswerLaws.{refused, finished, append-front}
-use Rattle.steps.specs.Step.{State, run, opening}
-use Rattle.steps.specs.StepList.{steps}
 use Rattle.matrix.specs.Job.{meant, totalOf, countless}
 use Rattle.matrix.specs.Opening.{fittingTests, openingTests}
 use Rattle.matrix.specs.Product.{endOf, productMeans}

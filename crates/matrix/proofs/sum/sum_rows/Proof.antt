@@ -1,10 +1,8 @@
-use mathlib.Core.Path.{_≡_, refl, subst, _∙_}
-use mathlib.Core.List.{List}
-use Prim.Native.Nat.{ℕ, _*_, _-_, _≤_}
+use mathlib.Core.Path.{_≡_, refl, _∙_}
+use Prim.Native.Nat.{_*_, _-_, _≤_}
 use lib.ListN.{length}
 use Rattle.cells.specs.Digit.{add3}
 use Rattle.matrix.specs.Sum.{sumOf}
-use Rattle.buffers.specs.Buffer.{words}
 use Rattle.buffers.proofs.SizeLaws.{planes-le, words-le, row-fits}
 use Rattle.rows.specs.Row.{of2}
 use Rattle.rows.proofs.MatrixLaws.{RowsMade, rows-none, rows-more, row-readable, placewise2}

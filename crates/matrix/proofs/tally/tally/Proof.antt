@@ -1,9 +1,8 @@
-use mathlib.Core.Path.{_≡_, sym, ap, _∙_}
-use mathlib.Core.Bool.{Bool}
+use mathlib.Core.Path.{sym, ap, _∙_}
 use mathlib.Core.List.{List}
 use Prim.Native.Nat.{ℕ}
 use lib.Dec.{eqb}
-use lib.ListN.{length, getD}
+use lib.ListN.{getD}
 use Rattle.buffers.proofs.BufferLaws.{legal-tests}
 use Rattle.requests.specs.Sizes.{faults}
 use Rattle.requests.proofs.SizeLaws.{over-columns, unfit-long}

@@ -1,12 +1,10 @@
-use mathlib.Core.Path.{_≡_, sym, ap, _∙_}
+use mathlib.Core.Path.{sym, ap, _∙_}
 use mathlib.Core.List.{_++_, append-assoc}
-use Prim.Native.Nat.{ℕ}
 use borrow.Author.Tests.{ltb-false}
 use Rattle.cells.proofs.AnyLaws.{or-left, or-right}
 use lib.Dec.{ltb, eqb}
-use lib.ListN.{length}
 use Rattle.requests.specs.Answers.{first}
-use Rattle.requests.specs.Sizes.{over, unfit, faults}
+use Rattle.requests.specs.Sizes.{over, faults}
 use Rattle.requests.proofs.AnswerLaws.{append-given, append-none}
 use Rattle.requests.proofs.SizeLaws.{over-rows, over-columns}
 use Rattle.walk.proofs.CountLaws.{shift-one}

@@ -1,5 +1,5 @@
 use mathlib.Core.Path.{_≡_, subst}
-use Prim.Native.Nat.{ℕ, _+_, _-_, _/_, _^_, _≤_}
+use Prim.Native.Nat.{ℕ, _-_, _/_, _^_, _≤_}
 use Rattle.cells.specs.Bit.{bit}
 use Rattle.cells.specs.Pair.{digit}
 use Rattle.rows.specs.Row.{Written}

@@ -1,5 +1,5 @@
 use Prim.Native.Nat.{_-_, _*_, _≤_, min}
-use Rattle.buffers.proofs.SizeLaws.{planes-le, planes-room, planes-tight}
+use Rattle.buffers.proofs.SizeLaws.{planes-le, planes-tight}
 use Rattle.rows.specs.Row.{Written}
 use Rattle.rows.specs.Tally.{column}
 use Rattle.matrix.proofs.UnpackLaws.{row-none, row-more, row-all}

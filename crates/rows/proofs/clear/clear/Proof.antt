@@ -1,5 +1,5 @@
 use mathlib.Core.Path.{_≡_, refl, subst}
-use Prim.Native.Nat.{ℕ, _+_, _-_, _≤_}
+use Prim.Native.Nat.{ℕ, _-_, _≤_}
 use Rattle.rows.specs.Row.{Written}
 use Rattle.rows.proofs.RowLaws.{written-none, written-next}
 use native.Mathlib.Omega.{arith}

@@ -1,4 +1,4 @@
-use mathlib.Core.Path.{_≡_, _∙_}
+use mathlib.Core.Path.{_∙_}
 use Rattle.buffers.proofs.SizeLaws.{planes-room}
 use Rattle.rows.proofs.FaultLaws.{padded-full, padded-last}
 use borrow.Author.Needs.{needs}

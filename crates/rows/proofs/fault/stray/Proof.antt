@@ -1,6 +1,5 @@
-use mathlib.Core.Path.{_≡_}
 use Prim.Native.Nat.{_-_}
-use Rattle.buffers.proofs.SizeLaws.{planes-le, planes-room, planes-tight}
+use Rattle.buffers.proofs.SizeLaws.{planes-le, planes-tight}
 use Rattle.rows.proofs.FaultLaws.{stray-empty, stray-early, stray-late, last-fits}
 use borrow.Author.Needs.{needs}
 use native.Mathlib.Omega.{arith}

@@ -1,5 +1,5 @@
 use mathlib.Core.Path.{_≡_, refl, subst}
-use Prim.Native.Nat.{ℕ, _+_, _-_, _≤_}
+use Prim.Native.Nat.{ℕ, _-_, _≤_}
 use Rattle.cells.specs.Digit.{mul3}
 use Rattle.rows.specs.Row.{of1, Made}
 use Rattle.rows.proofs.RowLaws.{made-none, made-next, load-legal, pair1}

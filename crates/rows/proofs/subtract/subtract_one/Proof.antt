@@ -1,4 +1,3 @@
-use Prim.Native.Nat.{_+_}
 use Rattle.cells.specs.Digit.{sub3}
 use Rattle.rows.proofs.RowLaws.{made-store, load-legal, pair2}
 use borrow.Author.Needs.{needs}

@@ -1,4 +1,3 @@
-use mathlib.Core.Path.{_≡_, refl}
 use mathlib.Core.Logic.{inr}
 use Prim.Native.Nat.{_+_, _-_, _*_}
 use Rattle.cells.specs.Digit.{add3}

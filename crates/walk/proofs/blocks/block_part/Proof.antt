@@ -1,5 +1,5 @@
-use mathlib.Core.Path.{_≡_, refl, ap, _∙_}
-use Prim.Native.Nat.{ℕ, _+_, _*_, _-_, _≤_}
+use mathlib.Core.Path.{refl, ap}
+use Prim.Native.Nat.{ℕ, _+_, _*_, _-_}
 use lib.Pow.{pow-pos}
 use Rattle.buffers.specs.Buffer.{cell}
 use Rattle.steps.proofs.Loops.{blocks-within, width-pos, width-le, width-within}

@@ -1,7 +1,6 @@
 use mathlib.Core.Path.{ap, _∙_}
 use Rattle.rows.specs.declared.block.Bits.{Bits}
 use Rattle.rows.specs.Block.{blockOf}
-use Prim.Native.Nat.{ℕ}
 use Rattle.buffers.proofs.SizeLaws.{planes-le, planes-room, words-le, row-fits}
 use Rattle.rows.proofs.MatrixLaws.{row-readable}
 use Rattle.walk.proofs.CountLaws.{bits-are}

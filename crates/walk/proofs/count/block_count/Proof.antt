@@ -4,7 +4,7 @@ use lib.Pow.{pow-pos}
 use Rattle.buffers.specs.Buffer.{cell}
 use Rattle.steps.specs.Matrix.{sum}
 use Rattle.steps.specs.Count.{rowCount}
-use Rattle.walk.proofs.CountLaws.{shift-one, pow-small, count-none, count-more, count-all, count-small}
+use Rattle.walk.proofs.CountLaws.{shift-one, count-none, count-more, count-all, count-small}
 use borrow.Author.Needs.{needs}
 use native.Mathlib.Omega.{arith}
 use Rattle.walk.proofs.count.block_count.Statement.{statement}

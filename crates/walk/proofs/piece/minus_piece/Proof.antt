@@ -1,7 +1,6 @@
-use mathlib.Core.Path.{_≡_, refl}
-use Prim.Native.Nat.{_*_, _^_, _≤_, _<_}
+use mathlib.Core.Path.{refl}
+use Prim.Native.Nat.{_*_}
 use native.Mathlib.Nat.{mul-le-mul}
-use lib.Pow.{pow-mono}
 use Rattle.buffers.proofs.SizeLaws.{planes-le, words-le, row-fits}
 use Rattle.rows.proofs.MatrixLaws.{row-readable}
 use Rattle.steps.specs.Step.{minus}

@@ -1,5 +1,5 @@
 use mathlib.Core.Path.{_≡_, sym}
-use Prim.Native.Nat.{ℕ, _+_, _*_, _-_, _≤_, _<_}
+use Prim.Native.Nat.{_+_, _-_, _≤_}
 use Rattle.buffers.specs.Buffer.{cell}
 use Rattle.steps.specs.Matrix.{sum}
 use Rattle.steps.specs.Count.{countAt}

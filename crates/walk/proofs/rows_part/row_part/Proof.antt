@@ -1,5 +1,3 @@
-use mathlib.Core.Path.{_≡_}
-use Prim.Native.Nat.{ℕ, _^_}
 use lib.Pow.{pow-mono}
 use Rattle.buffers.specs.Buffer.{cell}
 use Rattle.cells.specs.Digit.{Matrix}

@@ -1,11 +1,8 @@
-use mathlib.Core.Path.{_≡_, refl, subst, sym, _∙_}
-use mathlib.Core.List.{List}
-use Prim.Native.Nat.{ℕ, _+_, _-_, _^_, _≤_}
+use mathlib.Core.Path.{_≡_, refl, subst, _∙_}
+use Prim.Native.Nat.{ℕ, _+_, _-_, _≤_}
 use lib.ListN.{length}
 use Rattle.cells.specs.Digit.{Matrix}
 use Rattle.buffers.specs.Buffer.{cell, Legal}
-use Rattle.walk.specs.declared.Left.{Left}
-use Rattle.steps.specs.Step.{Step}
 use Rattle.steps.specs.StepList.{each, rowSteps}
 use Rattle.steps.proofs.Fits.{fit-wider, row-fits}
 use Rattle.steps.proofs.Loops.{each-end}

@@ -1,11 +1,11 @@
-use mathlib.Core.Path.{_≡_, ap}
+use mathlib.Core.Path.{ap}
 use Prim.Native.Nat.{ℕ, _+_, _*_, _^_, _<_}
 use native.Mathlib.Nat.{mul-le-mul}
 use lib.Pow.{pow-mono}
-use Rattle.buffers.proofs.SizeLaws.{planes-le, words-le, row-fits}
+use Rattle.buffers.proofs.SizeLaws.{planes-le, row-fits}
 use Rattle.rows.proofs.MatrixLaws.{row-readable, row-ends}
 use Rattle.walk.proofs.CountLaws.{pow-small}
-use Rattle.walk.proofs.PieceLaws.{Low, low-facts}
+use Rattle.walk.proofs.PieceLaws.{low-facts}
 use Rattle.walk.proofs.RanLaws.{ran-table-step}
 use borrow.Author.Needs.{needs}
 use native.Mathlib.Omega.{arith}
