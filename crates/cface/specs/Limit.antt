@@ -1,14 +1,15 @@
 -- The C face's limit, and lengths in bytes. Assumes nothing.
 use mathlib.Core.Bool.{Bool, not, _||_}
 use Prim.Native.Nat.{ℕ, _*_}
-use lib.Dec.{ltb, eqb}
+use lib.Dec.{eqb}
 use Rattle.buffers.specs.Buffer.{words}
 use Rattle.requests.specs.declared.Size.{Size}
 use Rattle.matrix.specs.Job.{tableSize, productSize}
+use Rattle.requests.specs.Sizes.{exceeds}
 
 -- a row or column count is above 64
 unfoldable pub above : Size → Bool
-above s = ltb 64 (s .rows) || ltb 64 (s .columns)
+above s = exceeds 64 s
 
 -- n bytes are not exactly a matrix's
 unfoldable pub unfitBytes : Size → ℕ → Bool

@@ -1,14 +1,14 @@
 -- What `nyuzolamba_open` answers and leaves: a record, and zero in table and product. Assumes nothing.
-use mathlib.Core.Bool.{false, not, _||_}
+use mathlib.Core.Bool.{false, _||_}
 use mathlib.Core.List.{List, [], _∷_, _++_}
 use Prim.Native.Nat.{ℕ, _^_}
-use lib.Dec.{ltb, eqb}
+use lib.Dec.{ltb}
 use lib.ListN.{length}
 use Rattle.buffers.specs.Buffer.{encode}
 use Rattle.requests.specs.declared.Size.{Size}
 use Rattle.requests.specs.Answers.{Tests, answered}
 use Rattle.requests.specs.Sizes.{over, faults}
-use Rattle.matrix.specs.Job.{meant, totalOf, countless}
+use Rattle.matrix.specs.Job.{meant, totalOf, countless, unmatched}
 use Rattle.matrix.specs.Opening.{newJob}
 use Rattle.cface.specs.Bytes.{wordsIn, bytesOf}
 use Rattle.cface.specs.Limit.{above, misfitBytes}
@@ -20,7 +20,7 @@ openSizes x y width k l m t p =
     (unfitRecord k, 4)
     ∷ (over x || over y, 1)
     ∷ (above x || above y, 11)
-    ∷ (not (eqb (x .columns) (y .rows)), 2)
+    ∷ (unmatched x y, 2)
     ∷ (ltb 8 width, 3)
     ∷ (misfitBytes x y (meant width) l m t p, 4)
     ∷ []

@@ -1,15 +1,14 @@
 -- What `nyuzolamba_product` answers and leaves: the schoolbook product. Its table is its own, at the default width. Assumes nothing.
-use mathlib.Core.Bool.{not, _||_}
+use mathlib.Core.Bool.{_||_}
 use mathlib.Core.List.{List, [], _∷_, _++_}
 use Prim.Native.Nat.{ℕ}
-use lib.Dec.{eqb}
 use lib.ListN.{length}
 use Rattle.buffers.specs.Buffer.{cell, encode}
 use Rattle.requests.specs.declared.Size.{Size}
 use Rattle.requests.specs.Answers.{Tests, answered}
 use Rattle.requests.specs.Sizes.{over, faults}
 use Rattle.steps.specs.Matrix.{schoolbook}
-use Rattle.matrix.specs.Job.{meant, productSize, totalOf, countless}
+use Rattle.matrix.specs.Job.{meant, productSize, totalOf, countless, unmatched}
 use Rattle.cface.specs.Bytes.{wordsIn, bytesOf}
 use Rattle.cface.specs.Limit.{above, unfitBytes}
 
@@ -18,7 +17,7 @@ unfoldable pub productSizes : Size → Size → ℕ → ℕ → ℕ → Tests
 productSizes x y l m n =
     (over x || over y, 1)
     ∷ (above x || above y, 11)
-    ∷ (not (eqb (x .columns) (y .rows)), 2)
+    ∷ (unmatched x y, 2)
     ∷ (unfitBytes x l || (unfitBytes y m || unfitBytes (productSize x y) n), 4)
     ∷ []
 

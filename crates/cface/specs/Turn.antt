@@ -8,7 +8,7 @@ use Rattle.buffers.specs.Buffer.{encode}
 use Rattle.requests.specs.Answers.{Tests, answered}
 use Rattle.requests.specs.Sizes.{over, faults}
 use Rattle.matrix.specs.declared.job.Job.{Job}
-use Rattle.matrix.specs.Job.{tableSize, productSize, totalOf, countless}
+use Rattle.matrix.specs.Job.{tableSize, productSize, totalOf, countless, unwide}
 use Rattle.matrix.specs.Turn.{sizeA, sizeB, madeOf, leftOf, onJob}
 use Rattle.cface.specs.Bytes.{wordsIn, bytesOf}
 use Rattle.cface.specs.Limit.{above, misfitBytes}
@@ -20,7 +20,7 @@ turnSizes job k l m t p =
     (unfitRecord k, 4)
     ∷ (over (sizeA job) || over (sizeB job), 1)
     ∷ (above (sizeA job) || above (sizeB job), 11)
-    ∷ (eqb (job .width) 0 || ltb 8 (job .width), 3)
+    ∷ (unwide (job .width), 3)
     ∷ (misfitBytes (sizeA job) (sizeB job) (job .width) l m t p, 4)
     ∷ []
 

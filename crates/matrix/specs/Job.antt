@@ -1,8 +1,8 @@
 -- A job's sizes and buffers. A is x, m by l; B is y, l by n; the table has 2 ^ width rows of n columns; the product is m by n. Assumes nothing.
-use mathlib.Core.Bool.{Bool, _||_}
+use mathlib.Core.Bool.{Bool, not, _||_}
 use mathlib.Core.List.{List, [], _∷_}
 use Prim.Native.Nat.{ℕ, zero, suc, _^_}
-use lib.Dec.{ltb}
+use lib.Dec.{ltb, eqb}
 use Rattle.buffers.specs.Buffer.{cell}
 use Rattle.requests.specs.declared.Size.{Size}
 use Rattle.requests.specs.Answers.{Tests}
@@ -14,11 +14,19 @@ unfoldable pub meant : ℕ → ℕ
 meant zero = 4
 meant (suc w) = suc w
 
+-- in a turn a width is 1 to 8
+abbrev pub unwide : ℕ → Bool
+unwide width = eqb width 0 || ltb 8 width
+
 abbrev pub tableSize : Size → ℕ → Size
 tableSize y width = record { rows = 2 ^ width; columns = y .columns }
 
 abbrev pub productSize : Size → Size → Size
 productSize x y = record { rows = x .rows; columns = y .columns }
+
+-- A's columns aren't B's rows
+abbrev pub unmatched : Size → Size → Bool
+unmatched x y = not (eqb (x .columns) (y .rows))
 
 -- one of the lengths of A, B, table and product is not exact
 unfoldable pub misfit : Size → Size → ℕ → ℕ → ℕ → ℕ → ℕ → Bool

@@ -1,21 +1,21 @@
 -- What `opening` answers and leaves: a record, and zero in table and product. Assumes nothing.
-use mathlib.Core.Bool.{not, _||_}
+use mathlib.Core.Bool.{_||_}
 use mathlib.Core.List.{List, _∷_, _++_}
 use Prim.Native.Nat.{ℕ, _^_}
-use lib.Dec.{ltb, eqb}
+use lib.Dec.{ltb}
 use lib.ListN.{length}
 use Rattle.buffers.specs.Buffer.{encode}
 use Rattle.requests.specs.declared.Size.{Size}
 use Rattle.requests.specs.Answers.{Tests, answered}
 use Rattle.requests.specs.Sizes.{over, faults}
 use Rattle.matrix.specs.declared.job.Job.{Job}
-use Rattle.matrix.specs.Job.{meant, misfit, totalOf, countless}
+use Rattle.matrix.specs.Job.{meant, misfit, totalOf, countless, unmatched}
 
 -- the tests of sizes, width, lengths and cells; t and p are how many words table and product have
 unfoldable pub fittingTests : Size → Size → ℕ → List ℕ → List ℕ → ℕ → ℕ → Tests
 fittingTests x y width a b t p =
     (over x || over y, 1)
-    ∷ (not (eqb (x .columns) (y .rows)), 2)
+    ∷ (unmatched x y, 2)
     ∷ (ltb 8 width, 3)
     ∷ (misfit x y (meant width) (length a) (length b) t p, 4)
     ∷ (faults x a ++ faults y b)

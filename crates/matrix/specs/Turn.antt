@@ -13,7 +13,7 @@ use Rattle.steps.specs.StepList.{steps}
 use Rattle.walk.specs.Due.{due}
 use Rattle.walk.specs.Ran.{found}
 use Rattle.matrix.specs.declared.job.Job.{Job}
-use Rattle.matrix.specs.Job.{tableSize, productSize, misfit, totalOf, countless}
+use Rattle.matrix.specs.Job.{tableSize, productSize, misfit, totalOf, countless, unwide}
 
 abbrev pub sizeA : Job → Size
 sizeA job = record { rows = job .m; columns = job .l }
@@ -25,7 +25,7 @@ sizeB job = record { rows = job .l; columns = job .n }
 unfoldable pub foundTests : Job → List ℕ → List ℕ → List ℕ → List ℕ → Tests
 foundTests job a b t p =
     (over (sizeA job) || over (sizeB job), 1)
-    ∷ (eqb (job .width) 0 || ltb 8 (job .width), 3)
+    ∷ (unwide (job .width), 3)
     ∷ (misfit (sizeA job) (sizeB job) (job .width) (length a) (length b) (length t) (length p), 4)
     ∷ (faults (sizeA job) a ++ (faults (sizeB job) b ++ (faults (tableSize (sizeB job) (job .width)) t ++ faults (productSize (sizeA job) (sizeB job)) p)))
 

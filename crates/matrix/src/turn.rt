@@ -3,10 +3,10 @@ ghost use mathlib.Core.Path.{_≡_};
 ghost use mathlib.Core.Bool.{false, _||_};
 ghost use mathlib.Core.List.{_++_};
 ghost use Prim.Native.Nat.{ℕ, min};
-ghost use lib.Dec.{ltb, eqb};
 ghost use lib.ListN.{length};
 ghost use Rattle.requests.specs.Answers.{number, first};
 ghost use Rattle.requests.specs.Sizes.{over, unfit, faults};
+ghost use Rattle.matrix.specs.Job.{unwide};
 ghost use Rattle.matrix.specs.Turn.{foundTests, turnMeans};
 use super::job::Job;
 use super::job::misfit;
@@ -30,7 +30,7 @@ pub struct Turned {
 
 // In a turn a width is 1 to 8.
 pub fn unwide(width: u64) -> bool
-    ensures { λ r. ⌜ r ≡ (eqb width 0 || ltb 8 width) ⌝ }
+    ensures { λ r. ⌜ r ≡ unwide width ⌝ }
 {
     if width == 0 {
         return true;

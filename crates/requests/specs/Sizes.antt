@@ -9,9 +9,13 @@ use Rattle.buffers.specs.Fault.{stray, padded}
 use Rattle.requests.specs.declared.Size.{Size}
 use Rattle.requests.specs.Answers.{Tests}
 
--- a row or column count is above 1,024
+-- a row or column count is above a limit
+abbrev pub exceeds : ℕ → Size → Bool
+exceeds limit s = ltb limit (s .rows) || ltb limit (s .columns)
+
+-- .. above 1,024
 unfoldable pub over : Size → Bool
-over s = ltb 1024 (s .rows) || ltb 1024 (s .columns)
+over s = exceeds 1024 s
 
 -- n words are not exactly a matrix's
 unfoldable pub unfit : Size → ℕ → Bool

@@ -1,8 +1,7 @@
 -- A matrix in text: its header line and the lines of its rows, one after another. Assumes nothing.
-use mathlib.Core.Bool.{Bool, _||_}
+use mathlib.Core.Bool.{Bool}
 use mathlib.Core.List.{List, [], _∷_, _++_}
 use Prim.Native.Nat.{ℕ, _+_, _*_}
-use lib.Dec.{ltb}
 use lib.ListN.{take, drop}
 use Rattle.cells.specs.Any.{any}
 use Rattle.buffers.specs.Buffer.{wide, joined}
@@ -11,6 +10,7 @@ use Rattle.requests.specs.Answers.{Tests, answered}
 use Rattle.frames.specs.Hex.{unframed}
 use Rattle.frames.specs.Header.{sizeOf, readHeaderTests}
 use Rattle.frames.specs.RowLine.{lineOf, wordsOf}
+use Rattle.requests.specs.Sizes.{exceeds}
 
 -- how many bytes the line of a row has
 unfoldable pub lineLong : ℕ → ℕ
@@ -46,7 +46,7 @@ restOf text = drop (9 + sizeIn text .rows * lineLong (sizeIn text .columns)) tex
 
 -- above the program's limit
 unfoldable pub above : Size → Bool
-above s = ltb 128 (s .rows) || ltb 128 (s .columns)
+above s = exceeds 128 s
 
 unfoldable pub headTests : List ℕ → Tests
 headTests text = readHeaderTests (take 9 text) ++ ((above (sizeIn text), 11) ∷ [])

@@ -2,14 +2,14 @@
 use mathlib.Core.Bool.{Bool, true, false, not}
 use mathlib.Core.List.{List, [], _∷_, _++_}
 use Prim.Native.Nat.{ℕ, zero, suc}
-use lib.Dec.{ltb, eqb}
+use lib.Dec.{ltb}
 use lib.ListN.{length, drop}
 use Rattle.buffers.specs.Buffer.{cell, encode}
 use Rattle.requests.specs.declared.Size.{Size}
 use Rattle.requests.specs.Answers.{Tests, first}
 use Rattle.requests.specs.Sizes.{faults}
 use Rattle.steps.specs.Matrix.{schoolbook}
-use Rattle.matrix.specs.Job.{productSize, totalOf}
+use Rattle.matrix.specs.Job.{productSize, totalOf, unmatched}
 use Rattle.frames.specs.Hex.{hexOf}
 use Rattle.frames.specs.Header.{headerOf}
 use Rattle.texts.specs.MatrixText.{linesOf, sizeIn, wordsIn, restOf, matrixTests}
@@ -20,7 +20,7 @@ formTests text = matrixTests text ++ (matrixTests (restOf text) ++ ((ltb 0 (leng
 
 -- and after that 2, then 5 and 6
 unfoldable pub factorTests : Size → Size → List ℕ → List ℕ → Tests
-factorTests x y a b = (not (eqb (x .columns) (y .rows)), 2) ∷ (faults x a ++ faults y b)
+factorTests x y a b = (unmatched x y, 2) ∷ (faults x a ++ faults y b)
 
 unfoldable pub multiplyTests : List ℕ → Tests
 multiplyTests text = formTests text ++ factorTests (sizeIn text) (sizeIn (restOf text)) (wordsIn text) (wordsIn (restOf text))
