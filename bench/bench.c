@@ -191,7 +191,7 @@ REQUEST(unpack, WORDS(0), CELLS(1))
 FACE(check, BYTES(0))
 FACE(sum, w->size, w->size, BYTES(0), BYTES(1), BYTES(2))
 FACE(product, w->size, w->size, BYTES(0), BYTES(1), BYTES(2))
-// Ours is compiled to calls of the same memcpy, so the copies alone have one side only.
+// Counted in C alone: bench/run prints no side of ours for it.
 SIDE(face_copied, face_copies, BYTES(0), BYTES(1), BYTES(2))
 
 // Products: A, B, table and product. A turn reads all four, so for a lone one table and product are legal.

@@ -1,4 +1,4 @@
 // Whole texts: matrices read out of a text, a product written as one, and the program multiply's answer to what it read.
 pub mod multiply;
-pub mod read;
-pub mod write;
+mod read;
+mod write;
