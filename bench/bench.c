@@ -1,5 +1,6 @@
 // bench                          lists the cases, a line each: name, size, times to be measured, parts of its work, what a part is
 // bench TIMES CASE SIZE SIDE     runs one case; SIDE is ours or c
+// bench time CASE SIZE SIDE      prints how long a call of it takes, in picoseconds
 //
 // Before it runs the side, a case is run on both sides and the contents of all buffers are compared; a request is run on spoilt buffers too, and
 // both sides must refuse them alike. What this and the filling cost is the same whatever TIMES is, so it falls out of a difference of two runs.
@@ -33,6 +34,8 @@ cells_to_one bench_pack;
 one_to_cells bench_unpack;
 job_begun bench_product, bench_opening;
 job_continued bench_turn;
+uint64_t bench_copies(const uint8_t *a, size_t a_bytes, const uint8_t *b, size_t b_bytes, uint8_t *out, size_t out_bytes, uint64_t *u, size_t u_len,
+                      uint64_t *v, size_t v_len);
 
 enum { BUFFERS = 4, SIZES = 5 };
 
@@ -191,8 +194,16 @@ REQUEST(unpack, WORDS(0), CELLS(1))
 FACE(check, BYTES(0))
 FACE(sum, w->size, w->size, BYTES(0), BYTES(1), BYTES(2))
 FACE(product, w->size, w->size, BYTES(0), BYTES(1), BYTES(2))
-// Counted in C alone: bench/run prints no side of ours for it.
-SIDE(face_copied, face_copies, BYTES(0), BYTES(1), BYTES(2))
+// The copies of a product alone. Ours is handed the words that they go through, so that none of them is left out.
+static uint64_t ours_face_copies(struct work *w, size_t times)
+{
+    static uint64_t u[128], v[128];
+    uint64_t answer = 0;
+    for (size_t i = 0; i < times; i++)
+        answer = bench_copies(BYTES(0), BYTES(1), BYTES(2), u, w->words[0], v, w->words[1]);
+    return answer;
+}
+SIDE(c_face_copies, face_copies, BYTES(0), BYTES(1), BYTES(2))
 
 // Products: A, B, table and product. A turn reads all four, so for a lone one table and product are legal.
 static void whole(struct work *w)
@@ -332,7 +343,7 @@ static const struct bench_case cases[] = {
     {"face-check", {64}, 4, fill_one, ours_face_check, c_face_check, WORD, 1, spoil_matrix, 0},
     {"face-sum", {64}, 4, fill_two_to_one, ours_face_sum, c_face_sum, WORD, 2, spoil_matrix, 0},
     {"face-product", {64}, 4, fill_two_to_one, ours_face_product, c_face_product, STEP, 2, spoil_matrix, 4},
-    {"face-copies", {64}, 4, fill_two_to_one, face_copied, face_copied, WORD, 0, NULL, 0},
+    {"face-copies", {64}, 4, fill_two_to_one, ours_face_copies, c_face_copies, WORD, 0, NULL, 0},
 };
 
 enum { CASES = sizeof cases / sizeof *cases };
@@ -381,6 +392,19 @@ static void compare_refusals(const struct bench_case *k, size_t size)
         }
 }
 
+struct timed {
+    const struct bench_case *k;
+    struct work w;
+    call *side;
+};
+
+static void make_timed(void *with, size_t times)
+{
+    struct timed *t = with;
+    if (t->side(&t->w, times) != 0)
+        die(1, "refused", t->k->name);
+}
+
 static bool has_size(const struct bench_case *k, size_t size)
 {
     for (int i = 0; i < SIZES && k->sizes[i] != 0; i++)
@@ -418,12 +442,12 @@ int main(int argc, char **argv)
         return 0;
     }
     if (argc != 5)
-        die(2, "usage", "bench [TIMES CASE SIZE SIDE]");
+        die(2, "usage", "bench [TIMES|time CASE SIZE SIDE]");
     const struct bench_case *k = NULL;
     for (int c = 0; c < CASES; c++)
         if (strcmp(argv[2], cases[c].name) == 0)
             k = &cases[c];
-    size_t times = number(argv[1]), size = number(argv[3]);
+    size_t size = number(argv[3]);
     if (k == NULL || !has_size(k, size))
         die(2, "no such case or size", argv[2]);
     bool ours = strcmp(argv[4], "ours") == 0;
@@ -431,6 +455,12 @@ int main(int argc, char **argv)
         die(2, "neither ours nor c", argv[4]);
     compare(k, size);
     compare_refusals(k, size);
-    run(k, size, times, ours ? k->ours : k->c);
+    call *side = ours ? k->ours : k->c;
+    if (strcmp(argv[1], "time") == 0) {
+        struct timed t = {k, filled(k, size), side};
+        print_time(make_timed, &t);
+    } else {
+        run(k, size, number(argv[1]), side);
+    }
     return 0;
 }

@@ -1,7 +1,8 @@
-// What the bench's programs share: ends, numbers from the command line, random words, and the size of a matrix.
+// What the bench's programs share: ends, numbers from the command line, random words, the size of a matrix, and time.
 #include <stdint.h>
 #include <stdio.h>
 #include <stdlib.h>
+#include <time.h>
 
 #include "c/planes.h"
 
@@ -40,4 +41,32 @@ static uint64_t random_word(void)
 static inline size_t matrix_words(size_t n)
 {
     return 2 * planes(n) * n;
+}
+
+static inline uint64_t nanoseconds(void)
+{
+    struct timespec now;
+    if (clock_gettime(CLOCK_MONOTONIC, &now) != 0)
+        die(2, "no clock", "clock_gettime");
+    return (uint64_t)now.tv_sec * 1000000000 + (uint64_t)now.tv_nsec;
+}
+
+// Prints what a call takes, in picoseconds: the shortest of nine runs, each of as many calls as take five milliseconds or more.
+static inline void print_time(void (*make)(void *with, size_t times), void *with)
+{
+    uint64_t least = UINT64_MAX;
+    size_t times = 1;
+    for (int runs = 0; runs < 9;) {
+        uint64_t from = nanoseconds();
+        make(with, times);
+        uint64_t took = nanoseconds() - from;
+        if (took < 5000000) {
+            times *= 2;
+            continue;
+        }
+        uint64_t each = took * 1000 / times;
+        least = each < least ? each : least;
+        runs++;
+    }
+    printf("%llu\n", (unsigned long long)least);
 }

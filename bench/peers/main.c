@@ -1,7 +1,10 @@
 // PEER TIMES SIZE     makes the product of two random matrices of SIZE by SIZE cells TIMES times, in a peer's own form
+// PEER time SIZE      prints how long it takes, in picoseconds
 //
 // Its last product is compared with that of the bench's C, so that what is counted is known to be the same product.
 #include "peer.h"
+
+#include <string.h>
 
 #include "../c/product.h"
 #include "../c/requests.h"
@@ -43,16 +46,25 @@ static uint8_t *product(size_t n, const uint8_t *a, const uint8_t *b)
     return cells;
 }
 
+static void multiply(void *with, size_t times)
+{
+    (void)with;
+    for (size_t k = 0; k < times; k++)
+        peer_multiplies();
+}
+
 int main(int argc, char **argv)
 {
     if (argc != 3)
-        die(2, "usage", "PEER TIMES SIZE");
-    size_t times = number(argv[1]), n = number(argv[2]);
+        die(2, "usage", "PEER TIMES|time SIZE");
+    size_t n = number(argv[2]);
     random_start();
     uint8_t *a = digits(n), *b = digits(n), *right = product(n, a, b);
     peer_takes(n, a, b);
-    for (size_t k = 0; k < times; k++)
-        peer_multiplies();
+    if (strcmp(argv[1], "time") == 0)
+        print_time(multiply, NULL);
+    else
+        multiply(NULL, number(argv[1]));
     for (size_t i = 0; i < n; i++)
         for (size_t j = 0; j < n; j++)
             if (peer_cell(i, j) != right[n * i + j])

@@ -16,7 +16,7 @@ use Rattle.matrix.specs.Check.{checkTests, checkMeans}
 use Rattle.matrix.specs.Negation.{negationMeans}
 use Rattle.matrix.specs.Sum.{sumOf, sumMeans}
 use Rattle.matrix.specs.Difference.{differenceOf, differenceMeans}
-use Rattle.cface.specs.Bytes.{wordsIn, bytesOf}
+use Rattle.wordbytes.specs.Bytes.{wordsIn, bytesOf}
 use Rattle.cface.specs.Limit.{above, unfitBytes}
 use Rattle.cface.specs.Check.{checkSizes, checkFaceTests, checkFace}
 use Rattle.cface.specs.Negation.{negationSizes, negationFaceTests, negationFace}

@@ -23,7 +23,7 @@ use Rattle.matrix.specs.Product.{productMeans}
 use Rattle.matrix.specs.Turn.{sizeA, sizeB, foundTests, turnTests, turnMeans}
 use Rattle.matrix.proofs.JobLaws.{meant-le}
 use Rattle.matrix.proofs.Demand3.{product-right}
-use Rattle.cface.specs.Bytes.{wordsIn, bytesOf}
+use Rattle.wordbytes.specs.Bytes.{wordsIn, bytesOf}
 use Rattle.cface.specs.Limit.{above, unfitBytes, misfitBytes}
 use Rattle.cface.specs.Product.{productSizes, productFaceTests, productFace}
 use Rattle.cface.specs.Record.{unfitRecord, jobIn, recordOf}

@@ -1,4 +1,3 @@
-pub mod ByteLaws
 pub mod LimitLaws
 pub mod CarryLaws
 pub mod JobCarryLaws

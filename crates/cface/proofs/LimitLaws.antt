@@ -14,9 +14,9 @@ use Rattle.buffers.specs.Buffer.{planes, wide, words}
 use Rattle.requests.specs.declared.Size.{Size}
 use Rattle.requests.specs.Sizes.{unfit}
 use Rattle.matrix.specs.Job.{tableSize, productSize}
-use Rattle.cface.specs.Bytes.{wordsIn}
+use Rattle.wordbytes.specs.Bytes.{wordsIn}
 use Rattle.cface.specs.Limit.{above, unfitBytes, misfitBytes}
-use Rattle.cface.proofs.ByteLaws.{words-length}
+use Rattle.wordbytes.proofs.ByteLaws.{words-length}
 
 pub above-rows : (s : Size) → above s ≡ false → s .rows ≤ 64
 unfolding above

@@ -15,7 +15,7 @@ use Rattle.matrix.specs.Opening.{newJob}
 use Rattle.matrix.specs.Sum.{sumOf}
 use Rattle.matrix.specs.Difference.{differenceOf}
 use Rattle.matrix.specs.Negation.{negationOf}
-use Rattle.cface.specs.Bytes.{wordsIn, bytesOf}
+use Rattle.wordbytes.specs.Bytes.{wordsIn, bytesOf}
 use Rattle.cface.specs.Check.{checkSizes, checkFaceTests, checkFace}
 use Rattle.cface.specs.Pair.{pairSizes, pairFaceTests}
 use Rattle.cface.specs.Sum.{sumFace}

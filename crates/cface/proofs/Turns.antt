@@ -28,12 +28,12 @@ use Rattle.matrix.specs.Opening.{newJob}
 use Rattle.matrix.specs.Turn.{sizeA, sizeB}
 use Rattle.matrix.proofs.JobLaws.{meant-pos, meant-le, Fitting, fitting-ready, opening-first}
 use Rattle.matrix.proofs.Demand3.{turn-at, end-right}
-use Rattle.cface.specs.Bytes.{wordsIn, bytesOf}
+use Rattle.wordbytes.specs.Bytes.{wordsIn, bytesOf}
 use Rattle.cface.specs.Limit.{above, unfitBytes, misfitBytes}
 use Rattle.cface.specs.Record.{unfitRecord, jobIn, recordOf}
 use Rattle.cface.specs.Open.{openSizes, openFaceTests, openFace}
 use Rattle.cface.specs.Turn.{turnSizes, turnFace}
-use Rattle.cface.proofs.ByteLaws.{words-bytes, bytes-length}
+use Rattle.wordbytes.proofs.ByteLaws.{words-bytes, bytes-length}
 use Rattle.cface.proofs.JobCarryLaws.{Fits, open-fits, open-same, turn-carried}
 
 -- ---- the record

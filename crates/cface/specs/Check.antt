@@ -5,7 +5,7 @@ use lib.ListN.{length}
 use Rattle.requests.specs.declared.Size.{Size}
 use Rattle.requests.specs.Answers.{Tests, first}
 use Rattle.requests.specs.Sizes.{over, faults}
-use Rattle.cface.specs.Bytes.{wordsIn}
+use Rattle.wordbytes.specs.Bytes.{wordsIn}
 use Rattle.cface.specs.Limit.{above, unfitBytes}
 
 -- the tests of sizes and lengths; n is how many bytes A has

@@ -7,7 +7,7 @@ use Rattle.requests.specs.declared.Size.{Size}
 use Rattle.requests.specs.Answers.{Tests, answered}
 use Rattle.requests.specs.Sizes.{over, faults}
 use Rattle.matrix.specs.Negation.{negationOf}
-use Rattle.cface.specs.Bytes.{wordsIn, bytesOf}
+use Rattle.wordbytes.specs.Bytes.{wordsIn, bytesOf}
 use Rattle.cface.specs.Limit.{above, unfitBytes}
 
 -- the tests of sizes and lengths; l and n are how many bytes A and the result have

@@ -10,7 +10,7 @@ use Rattle.requests.specs.Answers.{Tests, answered}
 use Rattle.requests.specs.Sizes.{over, faults}
 use Rattle.matrix.specs.Job.{meant, totalOf, countless, unmatched}
 use Rattle.matrix.specs.Opening.{newJob}
-use Rattle.cface.specs.Bytes.{wordsIn, bytesOf}
+use Rattle.wordbytes.specs.Bytes.{wordsIn, bytesOf}
 use Rattle.cface.specs.Limit.{above, misfitBytes}
 use Rattle.cface.specs.Record.{unfitRecord, recordOf}
 

@@ -7,7 +7,7 @@ use Rattle.requests.specs.declared.Size.{Size}
 use Rattle.requests.specs.Answers.{Tests}
 use Rattle.requests.specs.Sizes.{over, faults}
 use Rattle.requests.specs.Pair.{unequal}
-use Rattle.cface.specs.Bytes.{wordsIn}
+use Rattle.wordbytes.specs.Bytes.{wordsIn}
 use Rattle.cface.specs.Limit.{above, unfitBytes}
 
 -- the tests of sizes and lengths; l, m and n are how many bytes A, B and the result have

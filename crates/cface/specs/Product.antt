@@ -9,7 +9,7 @@ use Rattle.requests.specs.Answers.{Tests, answered}
 use Rattle.requests.specs.Sizes.{over, faults}
 use Rattle.steps.specs.Matrix.{schoolbook}
 use Rattle.matrix.specs.Job.{meant, productSize, totalOf, countless, unmatched}
-use Rattle.cface.specs.Bytes.{wordsIn, bytesOf}
+use Rattle.wordbytes.specs.Bytes.{wordsIn, bytesOf}
 use Rattle.cface.specs.Limit.{above, unfitBytes}
 
 -- the tests of sizes and lengths; l, m and n are how many bytes A, B and the product have

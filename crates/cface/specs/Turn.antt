@@ -10,7 +10,7 @@ use Rattle.requests.specs.Sizes.{over, faults}
 use Rattle.matrix.specs.declared.job.Job.{Job}
 use Rattle.matrix.specs.Job.{tableSize, productSize, totalOf, countless, unwide}
 use Rattle.matrix.specs.Turn.{sizeA, sizeB, madeOf, leftOf, onJob}
-use Rattle.cface.specs.Bytes.{wordsIn, bytesOf}
+use Rattle.wordbytes.specs.Bytes.{wordsIn, bytesOf}
 use Rattle.cface.specs.Limit.{above, misfitBytes}
 use Rattle.cface.specs.Record.{unfitRecord, jobIn, recordOf}
 

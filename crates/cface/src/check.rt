@@ -4,7 +4,6 @@ ghost use Prim.Native.Nat.{_*_};
 ghost use lib.ListN.{length};
 ghost use Rattle.requests.specs.Answers.{number, first};
 ghost use Rattle.cface.specs.Check.{checkSizes, checkFace};
-use super::bytes::words_in;
 use super::limit::above;
 use super::limit::unfit;
 use matrix::check::check;
@@ -12,6 +11,7 @@ use requests::Answer;
 use requests::Size;
 use requests::number;
 use requests::sizes::over;
+use wordbytes::bytes::words_in;
 
 // The tests of sizes and lengths; n is how many bytes A has.
 fn judged(s: Size, n: usize) -> Answer

@@ -4,11 +4,11 @@ ghost use mathlib.Core.List.{List};
 ghost use Prim.Native.Nat.{ℕ, _*_};
 ghost use lib.ListN.{length};
 ghost use Rattle.requests.specs.Answers.{left};
-ghost use Rattle.cface.specs.Bytes.{bytesOf};
+ghost use Rattle.wordbytes.specs.Bytes.{bytesOf};
 ghost use Rattle.cface.specs.Record.{recordOf};
-use super::bytes::bytes_of;
 use super::record::put_record;
 use matrix::job::Job;
+use wordbytes::bytes::bytes_of;
 
 pub fn leave(f: u64, w: &[u64], out: &mut [u8]) -> u64
     requires { ⌜ length (now out) ≡ 8 * length (now w) ⌝ }

@@ -7,7 +7,6 @@ ghost use Rattle.requests.specs.Answers.{number, first};
 ghost use Rattle.requests.specs.Sizes.{over};
 ghost use Rattle.cface.specs.Limit.{unfitBytes};
 ghost use Rattle.cface.specs.Negation.{negationSizes, negationFace};
-use super::bytes::words_in;
 use super::leave::leave;
 use super::limit::above;
 use super::limit::unfit;
@@ -16,6 +15,7 @@ use requests::Answer;
 use requests::Size;
 use requests::number;
 use requests::sizes::over;
+use wordbytes::bytes::words_in;
 
 fn either_unfit(s: Size, l: usize, n: usize) -> bool
     requires { ⌜ over s ≡ false ⌝ }

@@ -4,7 +4,6 @@ ghost use Prim.Native.Nat.{_*_};
 ghost use lib.ListN.{length};
 ghost use Rattle.requests.specs.Answers.{number, first};
 ghost use Rattle.cface.specs.Open.{openSizes, openFace};
-use super::bytes::words_in_two;
 use super::leave::leave_job;
 use super::limit::either_above;
 use super::limit::misfit;
@@ -14,6 +13,7 @@ use requests::Answer;
 use requests::Size;
 use requests::number;
 use requests::sizes::either_over;
+use wordbytes::bytes::words_in_two;
 
 // The tests of sizes, width and lengths; k, l, m, t and p are how many bytes record, A, B, table and product have.
 fn judged(x: Size, y: Size, width: u64, k: usize, l: usize, m: usize, t: usize, p: usize) -> Answer

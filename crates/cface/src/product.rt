@@ -5,7 +5,6 @@ ghost use lib.ListN.{length};
 ghost use Rattle.buffers.specs.Buffer.{words};
 ghost use Rattle.requests.specs.Answers.{number, first};
 ghost use Rattle.cface.specs.Product.{productSizes, productFace};
-use super::bytes::words_in_two;
 use super::leave::leave;
 use super::limit::either_above;
 use super::pair::unfits;
@@ -15,6 +14,7 @@ use requests::Answer;
 use requests::Size;
 use requests::number;
 use requests::sizes::either_over;
+use wordbytes::bytes::words_in_two;
 
 // The tests of sizes and lengths; l, m and n are how many bytes A, B and the product have.
 fn judged(x: Size, y: Size, l: usize, m: usize, n: usize) -> Answer

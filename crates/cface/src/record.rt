@@ -3,11 +3,11 @@ ghost use mathlib.Core.Path.{_≡_};
 ghost use mathlib.Core.Bool.{false};
 ghost use Prim.Native.Nat.{_*_};
 ghost use lib.ListN.{length};
-ghost use Rattle.cface.specs.Bytes.{wordsIn, bytesOf};
+ghost use Rattle.wordbytes.specs.Bytes.{wordsIn, bytesOf};
 ghost use Rattle.cface.specs.Record.{jobIn, recordOf};
-use super::bytes::bytes_of;
-use super::bytes::word;
 use matrix::job::Job;
+use wordbytes::bytes::bytes_of;
+use wordbytes::bytes::word;
 
 pub fn job_in(bytes: &[u8]) -> Job
     requires { ⌜ length (now bytes) ≡ 56 ⌝ }

@@ -5,12 +5,12 @@ ghost use lib.ListN.{length};
 ghost use Rattle.requests.specs.Answers.{number, first};
 ghost use Rattle.cface.specs.Pair.{pairSizes};
 ghost use Rattle.cface.specs.Sum.{sumFace};
-use super::bytes::words_in_two;
 use super::leave::leave;
 use super::pair::judged;
 use matrix::sum::sum;
 use requests::Size;
 use requests::number;
+use wordbytes::bytes::words_in_two;
 
 // The words of A, B and the result go into room for exactly as many.
 fn sum_words(

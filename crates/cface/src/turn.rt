@@ -5,10 +5,9 @@ ghost use Prim.Native.Nat.{_*_};
 ghost use lib.Dec.{ltb, eqb};
 ghost use lib.ListN.{length};
 ghost use Rattle.requests.specs.Answers.{number, first};
-ghost use Rattle.cface.specs.Bytes.{wordsIn};
+ghost use Rattle.wordbytes.specs.Bytes.{wordsIn};
 ghost use Rattle.cface.specs.Record.{jobIn};
 ghost use Rattle.cface.specs.Turn.{turnSizes, turnFace};
-use super::bytes::words_in_two;
 use super::leave::leave_job;
 use super::limit::either_above;
 use super::limit::misfit;
@@ -19,6 +18,7 @@ use requests::Answer;
 use requests::Size;
 use requests::number;
 use requests::sizes::either_over;
+use wordbytes::bytes::words_in_two;
 
 // The tests of sizes, width and lengths; k, l, m, t and p are how many bytes record, A, B, table and product have.
 fn judged(job: Job, k: usize, l: usize, m: usize, t: usize, p: usize) -> Answer

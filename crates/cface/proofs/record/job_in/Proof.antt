@@ -1,5 +1,5 @@
 use Rattle.cface.specs.Record.{jobIn}
-use Rattle.cface.proofs.ByteLaws.{word-at}
+use Rattle.wordbytes.proofs.ByteLaws.{word-at}
 use borrow.Author.Needs.{needs}
 use native.Mathlib.Omega.{arith}
 use Rattle.cface.proofs.record.job_in.Statement.{statement}

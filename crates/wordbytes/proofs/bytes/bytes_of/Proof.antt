@@ -1,10 +1,10 @@
 use mathlib.Core.Path.{_≡_, refl, _∙_}
 use Prim.Native.Nat.{_-_, _*_, _≤_}
 use lib.ListN.{length}
-use Rattle.cface.proofs.ByteLaws.{Filled, filled-none, byteAt, written-word, written-all}
+use Rattle.wordbytes.proofs.ByteLaws.{Filled, filled-none, byteAt, written-word, written-all}
 use native.Mathlib.Omega.{arith}
-use Rattle.cface.proofs.bytes.bytes_of.Statement.{statement}
-use Rattle.cface.proofs.bytes.bytes_of.Tie as tie
+use Rattle.wordbytes.proofs.bytes.bytes_of.Statement.{statement}
+use Rattle.wordbytes.proofs.bytes.bytes_of.Tie as tie
 
 abbrev Inv-loop : tie.InvT-loop
 Inv-loop words bytes₀ p₀ bytes p = (p ≤ length words) × (length bytes ≡ length bytes₀) × Filled (byteAt words) (8 * p) bytes

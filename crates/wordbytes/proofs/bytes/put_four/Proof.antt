@@ -1,10 +1,10 @@
 use Rattle.rows.proofs.RowLaws.{written-more}
-use Rattle.cface.specs.Bytes.{byteOf}
-use Rattle.cface.proofs.ByteLaws.{byte-later}
+use Rattle.wordbytes.specs.Bytes.{byteOf}
+use Rattle.wordbytes.proofs.ByteLaws.{byte-later}
 use native.Mathlib.Omega.{arith}
 use borrow.Author.Needs.{needs}
-use Rattle.cface.proofs.bytes.put_four.Statement.{statement}
-use Rattle.cface.proofs.bytes.put_four.Tie as tie
+use Rattle.wordbytes.proofs.bytes.put_four.Statement.{statement}
+use Rattle.wordbytes.proofs.bytes.put_four.Tie as tie
 
 put-two-requires : tie.Need-put-two-requires
 put-two-requires c κs = search needs

@@ -1,9 +1,9 @@
 use lib.ListN.{length-set}
-use Rattle.cface.proofs.ByteLaws.{two-written}
+use Rattle.wordbytes.proofs.ByteLaws.{two-written}
 use native.Mathlib.Omega.{arith}
 use borrow.Author.Needs.{needs}
-use Rattle.cface.proofs.bytes.put_two.Statement.{statement}
-use Rattle.cface.proofs.bytes.put_two.Tie as tie
+use Rattle.wordbytes.proofs.bytes.put_two.Statement.{statement}
+use Rattle.wordbytes.proofs.bytes.put_two.Tie as tie
 
 cast-bytes : tie.Need-cast-bytes
 cast-bytes c = search needs

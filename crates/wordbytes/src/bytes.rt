@@ -3,7 +3,7 @@ ghost use mathlib.Core.Path.{_≡_};
 ghost use Prim.Native.Nat.{ℕ, _+_, _*_, _≤_, _<_};
 ghost use lib.ListN.{length};
 ghost use Rattle.rows.specs.Row.{Written};
-ghost use Rattle.cface.specs.Bytes.{byteOf, valueOf, wordsIn, bytesOf};
+ghost use Rattle.wordbytes.specs.Bytes.{byteOf, valueOf, wordsIn, bytesOf};
 
 fn wide(b: u8) -> u64
     ensures { λ r. ⌜ (r ≡ b) × (r < 256) ⌝ }

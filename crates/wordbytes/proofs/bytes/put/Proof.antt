@@ -1,10 +1,10 @@
 use Rattle.rows.proofs.RowLaws.{written-more}
-use Rattle.cface.specs.Bytes.{byteOf}
-use Rattle.cface.proofs.ByteLaws.{byte-later}
+use Rattle.wordbytes.specs.Bytes.{byteOf}
+use Rattle.wordbytes.proofs.ByteLaws.{byte-later}
 use native.Mathlib.Omega.{arith}
 use borrow.Author.Needs.{needs}
-use Rattle.cface.proofs.bytes.put.Statement.{statement}
-use Rattle.cface.proofs.bytes.put.Tie as tie
+use Rattle.wordbytes.proofs.bytes.put.Statement.{statement}
+use Rattle.wordbytes.proofs.bytes.put.Tie as tie
 
 put-four-requires : tie.Need-put-four-requires
 put-four-requires c κs = search needs

@@ -1,10 +1,10 @@
 use mathlib.Core.Path.{_≡_, refl}
 use Prim.Native.Nat.{_-_, _≤_}
 use lib.ListN.{length, length-set}
-use Rattle.cface.proofs.ByteLaws.{Filled, filled-none, filled-next, wordAt, read-all}
+use Rattle.wordbytes.proofs.ByteLaws.{Filled, filled-none, filled-next, wordAt, read-all}
 use native.Mathlib.Omega.{arith}
-use Rattle.cface.proofs.bytes.words_in.Statement.{statement}
-use Rattle.cface.proofs.bytes.words_in.Tie as tie
+use Rattle.wordbytes.proofs.bytes.words_in.Statement.{statement}
+use Rattle.wordbytes.proofs.bytes.words_in.Tie as tie
 
 abbrev Inv-loop : tie.InvT-loop
 Inv-loop bytes words₀ p₀ words p = (p ≤ length words₀) × (length words ≡ length words₀) × Filled (wordAt bytes) p words

@@ -1,8 +1,8 @@
-use Rattle.cface.proofs.ByteLaws.{eight-bytes}
+use Rattle.wordbytes.proofs.ByteLaws.{eight-bytes}
 use borrow.Author.Needs.{needs}
 use native.Mathlib.Omega.{arith}
-use Rattle.cface.proofs.bytes.word.Statement.{statement}
-use Rattle.cface.proofs.bytes.word.Tie as tie
+use Rattle.wordbytes.proofs.bytes.word.Statement.{statement}
+use Rattle.wordbytes.proofs.bytes.word.Tie as tie
 
 four-requires : tie.Need-four-requires
 four-requires c κs = search needs

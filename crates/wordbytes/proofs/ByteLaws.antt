@@ -11,7 +11,7 @@ use Rattle.buffers.specs.Buffer.{Words, tab}
 use Rattle.buffers.proofs.BufferLaws.{length-tab, getD-tab}
 use Rattle.rows.specs.Row.{Written}
 use Rattle.rows.proofs.RowLaws.{written-none, written-next}
-use Rattle.cface.specs.Bytes.{byteOf, valueOf, wordsIn, bytesOf}
+use Rattle.wordbytes.specs.Bytes.{byteOf, valueOf, wordsIn, bytesOf}
 
 -- ---- one word
 

@@ -1,8 +1,8 @@
-use Rattle.cface.proofs.ByteLaws.{four-bytes}
+use Rattle.wordbytes.proofs.ByteLaws.{four-bytes}
 use borrow.Author.Needs.{needs}
 use native.Mathlib.Omega.{arith}
-use Rattle.cface.proofs.bytes.four.Statement.{statement}
-use Rattle.cface.proofs.bytes.four.Tie as tie
+use Rattle.wordbytes.proofs.bytes.four.Statement.{statement}
+use Rattle.wordbytes.proofs.bytes.four.Tie as tie
 
 shared-slice-read-wide : tie.Need-shared-slice-read-wide
 shared-slice-read-wide c = search needs

@@ -1,6 +1,6 @@
 use borrow.Author.Needs.{needs}
-use Rattle.cface.proofs.bytes.words_in_two.Statement.{statement}
-use Rattle.cface.proofs.bytes.words_in_two.Tie as tie
+use Rattle.wordbytes.proofs.bytes.words_in_two.Statement.{statement}
+use Rattle.wordbytes.proofs.bytes.words_in_two.Tie as tie
 
 words-in-requires : tie.Need-words-in-requires
 words-in-requires c κs = search needs
