@@ -11,17 +11,17 @@ use lib.ListN.{length, getD}
 use borrow.Author.Tests.{lt-ltb, le-ltb, eq-eqb}
 use Rattle.cells.specs.Any.{any}
 use Rattle.cells.proofs.AnyLaws.{any-none}
-use Rattle.frames.specs.Hex.{pick, digitOf, byteOf, nibble, valueOf, undigit, unframed}
+use Rattle.frames.specs.Hex.{digitOf, byteOf, nibble, valueOf, undigit, unframed}
 use Rattle.frames.proofs.HexLaws.{Digits}
 
 -- ---- one digit
 
 byte-low : (d : ℕ) → d < 10 → digitOf (byteOf d) ≡ d
-unfolding digitOf byteOf pick
+unfolding digitOf byteOf
 byte-low d l = simp (lt-ltb d 10 l, le-ltb (48 + d) 48 (omega arith), lt-ltb (48 + d) 58 (omega arith)) (omega arith)
 
 byte-high : (d : ℕ) → 10 ≤ d → d < 16 → digitOf (byteOf d) ≡ d
-unfolding digitOf byteOf pick
+unfolding digitOf byteOf
 byte-high d l h = simp (le-ltb d 10 l, le-ltb (87 + d) 48 (omega arith), le-ltb (87 + d) 58 (omega arith), le-ltb (87 + d) 97 (omega arith), lt-ltb (87 + d) 103 (omega arith)) (omega arith)
 
 pub byte-digit : (d : ℕ) → d < 16 → digitOf (byteOf d) ≡ d
@@ -32,7 +32,7 @@ byte-digit d h = go (decLt d 10)
     go (no l) = byte-high d (omega arith) h
 
 pub digit-byte : (b : ℕ) → digitOf b < 16 → byteOf (digitOf b) ≡ b
-unfolding digitOf byteOf pick
+unfolding digitOf byteOf
 digit-byte b h = go (decLt b 48) (decLt b 58) (decLt b 97) (decLt b 103)
   where
     go : Dec (b < 48) → Dec (b < 58) → Dec (b < 97) → Dec (b < 103) → byteOf (digitOf b) ≡ b

@@ -18,7 +18,7 @@ use Rattle.requests.proofs.AnswerLaws.{finished, first-none, later, none-first}
 use Rattle.requests.proofs.SizeLaws.{over-rows, over-columns}
 use Rattle.frames.specs.Hex.{byteOf, nibble, hexOf, valueOf, unframed}
 use Rattle.frames.specs.Header.{headerOf, sizeOf, readHeaderTests, readHeaderMeans, writeHeaderTests, writeHeaderMeans}
-use Rattle.frames.specs.RowLine.{lineOf, wordsOf, readRowTests, readRowMeans, writeRowTests, writeRowMeans}
+use Rattle.frames.specs.RowLine.{lineLong, lineOf, wordsOf, readRowTests, readRowMeans, writeRowTests, writeRowMeans}
 use Rattle.frames.proofs.HexLaws.{Framed, framed}
 use Rattle.frames.proofs.DigitLaws.{Says, value-said, byte-value, nibble-lt, framed-line}
 use Rattle.frames.proofs.LineLaws.{Filled, hex-length, hex-filled, header-eight}
@@ -103,7 +103,7 @@ read-written-row c ws old small long fit room =
     finished _ _ _ ws (rw (le-ltb 1024 c small, eq-eqb (length old) (wide c) room, line-framed (wide c) ws)) (sym (words-line (wide c) ws long fit))
 
 pub written-read-row : (c : ℕ) (line old : List ℕ) → c ≤ 1024 → unframed line (wide c * 16) ≡ false → length old ≡ wide c * 16 + 1 → _≡_ {A = ℕ × List ℕ} (0, line) (writeRowMeans c (wordsOf (wide c) line) old)
-unfolding writeRowMeans writeRowTests first wordsOf
+unfolding writeRowMeans writeRowTests lineLong first wordsOf
 written-read-row c line old small h room =
     finished _ _ _ line (rw (le-ltb 1024 c small, length-tab (wide c) (λ p. valueOf line (p * 16) 16), eq-eqb (wide c) (wide c) refl, eq-eqb (length old) (wide c * 16 + 1) room)) (sym (line-words (wide c) line h))
 

@@ -15,7 +15,7 @@ use Rattle.buffers.proofs.BufferLaws.{length-tab, getD-tab, length-joined, getD
 use Rattle.requests.specs.Answers.{first}
 use Rattle.requests.proofs.AnswerLaws.{first-none}
 use Rattle.frames.specs.Hex.{byteOf, nibble, hexOf, valueOf, unframed}
-use Rattle.frames.specs.RowLine.{lineOf, wordsOf, readRowTests, writeRowTests}
+use Rattle.frames.specs.RowLine.{lineLong, lineOf, wordsOf, readRowTests, writeRowTests}
 use Rattle.frames.proofs.HexLaws.{Framed, framed}
 use Rattle.frames.proofs.LineLaws.{Filled, filled-end, hex-length, hex-filled}
 
@@ -67,7 +67,7 @@ pub record Writable (c n m : ℕ) : Type 0 where
   pub room : m ≡ wide c * 16 + 1
 
 pub writable-row : (c n m : ℕ) → first (writeRowTests c n m) ≡ 0 → Writable c n m
-unfolding writeRowTests
+unfolding writeRowTests lineLong
 writable-row c n m h =
     let z = first-none ((ltb 1024 c, 1) ∷ (not (eqb n (wide c)) || not (eqb m (wide c * 16 + 1)), 4) ∷ []) tt h in
     let a = or-left (not (eqb n (wide c))) (not (eqb m (wide c * 16 + 1))) (z .1 .0) in

@@ -1,5 +1,5 @@
 -- Numbers as hexadecimal digits, most significant first, and lines of them. Assumes nothing.
-use mathlib.Core.Bool.{Bool, true, false, not, _||_}
+use mathlib.Core.Bool.{Bool, cond, not, _||_}
 use mathlib.Core.List.{List}
 use Prim.Native.Nat.{ℕ, zero, suc, _+_, _-_, _*_, _/_, _%_, _^_}
 use lib.Dec.{ltb, eqb}
@@ -7,17 +7,13 @@ use lib.ListN.{length, getD}
 use Rattle.cells.specs.Any.{any}
 use Rattle.buffers.specs.Buffer.{tab}
 
-unfoldable pub pick : Bool → ℕ → ℕ → ℕ
-pick true x y = x
-pick false x y = y
-
 -- the value of a byte: 48 to 57 are 0 to 9, 97 to 102 are 10 to 15, and any other has none, said by 16
 unfoldable pub digitOf : ℕ → ℕ
-digitOf b = pick (ltb b 48) 16 (pick (ltb b 58) (b - 48) (pick (ltb b 97) 16 (pick (ltb b 103) (b - 87) 16)))
+digitOf b = cond (ltb b 48) 16 (cond (ltb b 58) (b - 48) (cond (ltb b 97) 16 (cond (ltb b 103) (b - 87) 16)))
 
 -- the byte of a value below 16
 unfoldable pub byteOf : ℕ → ℕ
-byteOf d = pick (ltb d 10) (48 + d) (87 + d)
+byteOf d = cond (ltb d 10) (48 + d) (87 + d)
 
 -- digit t of v, the lowest first
 unfoldable pub nibble : ℕ → ℕ → ℕ

@@ -8,6 +8,10 @@ use Rattle.buffers.specs.Buffer.{wide, tab, joined}
 use Rattle.requests.specs.Answers.{Tests, answered}
 use Rattle.frames.specs.Hex.{hexOf, valueOf, unframed}
 
+-- how many bytes the line of a row has
+unfoldable pub lineLong : ℕ → ℕ
+lineLong c = wide c * 16 + 1
+
 -- the line of w words, and the words of a line
 unfoldable pub lineOf : ℕ → List ℕ → List ℕ
 lineOf w ws = joined w (λ p. hexOf 16 (getD ws p 0)) ++ (10 ∷ [])
@@ -24,7 +28,7 @@ readRowMeans c line ws = answered (readRowTests c line (length ws)) ws (wordsOf 
 
 -- n is how many words there are, and m how many bytes
 unfoldable pub writeRowTests : ℕ → ℕ → ℕ → Tests
-writeRowTests c n m = (ltb 1024 c, 1) ∷ (not (eqb n (wide c)) || not (eqb m (wide c * 16 + 1)), 4) ∷ []
+writeRowTests c n m = (ltb 1024 c, 1) ∷ (not (eqb n (wide c)) || not (eqb m (lineLong c)), 4) ∷ []
 
 unfoldable pub writeRowMeans : ℕ → List ℕ → List ℕ → ℕ × List ℕ
 writeRowMeans c ws line = answered (writeRowTests c (length ws) (length line)) line (lineOf (wide c) ws)

@@ -28,16 +28,17 @@ module _ (x y : Size) (a b : List ℕ) (xr : x .rows ≤ 128) (xc : x .columns �
   y-small : over y ≡ false
   y-small = not-over y (omega arith) (omega arith)
 
-  few-steps : totalOf x 4 a < 4294967296
+  few-steps : totalOf x (meant 0) a < 4294967296
+  unfolding meant
   few-steps = total-small (x .rows) (x .columns) 4 (cell (x .columns) a) (omega arith) (omega arith) (omega arith) (omega arith)
 
   -- where no test holds, the total is counted too
-  pub total-made : (n steps : ℕ) → first (factorTests x y a b) ≡ 0 → _≡_ {A = ℕ × ℕ} (n, steps) (totalMeans x 0 a) → steps ≡ totalOf x 4 a
+  pub total-made : (n steps : ℕ) → first (factorTests x y a b) ≡ 0 → _≡_ {A = ℕ × ℕ} (n, steps) (totalMeans x 0 a) → steps ≡ totalOf x (meant 0) a
   unfolding totalMeans totalTests oneFactorTests factorTests faults meant
   total-made n steps h says =
       let d = first-none (factorTests x y a b) tt h in
-      let none = none-first (totalTests x 0 a) (x-small, (refl, (not-unfit x (length a) la, (d .1 .0, (d .1 .1 .0, (le-ltb 4294967295 (totalOf x 4 a) (omega (arith, few-steps)), tt)))))) in
-      ap (λ (o : ℕ × ℕ). o .1) (says ∙ sym (finished (totalTests x 0 a) 0 (totalOf x 4 a) (totalOf x 4 a) none refl))
+      let none = none-first (totalTests x 0 a) (x-small, (refl, (not-unfit x (length a) la, (d .1 .0, (d .1 .1 .0, (le-ltb 4294967295 (totalOf x (meant 0) a) (omega (arith, few-steps)), tt)))))) in
+      ap (λ (o : ℕ × ℕ). o .1) (says ∙ sym (finished (totalTests x 0 a) 0 (totalOf x (meant 0) a) (totalOf x (meant 0) a) none refl))
 
   module _ (t p : ℕ) (lt : t ≡ words 16 (y .columns)) (lp : p ≡ words (x .rows) (y .columns)) where
     fit : misfit x y (meant 0) (length a) (length b) t p ≡ false
@@ -56,8 +57,8 @@ module _ (x y : Size) (a b : List ℕ) (xr : x .rows ≤ 128) (xc : x .columns �
     unfolding openingTests meant first
     product-tests = go (first (fittingTests x y 0 a b t p)) refl
       where
-        go : (n : ℕ) → first (fittingTests x y 0 a b t p) ≡ n → first (fittingTests x y 0 a b t p ++ countless (totalOf x 4 a)) ≡ first (factorTests x y a b)
+        go : (n : ℕ) → first (fittingTests x y 0 a b t p) ≡ n → first (fittingTests x y 0 a b t p ++ countless (totalOf x (meant 0) a)) ≡ first (factorTests x y a b)
         go zero e =
-            append-none (fittingTests x y 0 a b t p) (countless (totalOf x 4 a)) (fitting-positive x y 0 a b t p) e
-            ∙ later (ltb 4294967295 (totalOf x 4 a)) 9 [] (le-ltb 4294967295 (totalOf x 4 a) (omega (arith, few-steps))) ∙ sym e ∙ same-tests
-        go (suc n) e = append-given (fittingTests x y 0 a b t p) (countless (totalOf x 4 a)) (λ z. absurd (omega (arith, z, e))) ∙ same-tests
+            append-none (fittingTests x y 0 a b t p) (countless (totalOf x (meant 0) a)) (fitting-positive x y 0 a b t p) e
+            ∙ later (ltb 4294967295 (totalOf x (meant 0) a)) 9 [] (le-ltb 4294967295 (totalOf x (meant 0) a) (omega (arith, few-steps))) ∙ sym e ∙ same-tests
+        go (suc n) e = append-given (fittingTests x y 0 a b t p) (countless (totalOf x (meant 0) a)) (λ z. absurd (omega (arith, z, e))) ∙ same-tests

@@ -8,7 +8,8 @@ use lib.ListN.{length, drop}
 use lib.Seq.{drop-drop}
 use Rattle.buffers.specs.Buffer.{planes, wide}
 use Rattle.requests.specs.Answers.{first}
-use Rattle.texts.specs.MatrixText.{lineLong, misread, wordsRead, wordsIn, sizeMeans, matrixTests}
+use Rattle.frames.specs.RowLine.{lineLong}
+use Rattle.texts.specs.MatrixText.{misread, wordsRead, wordsIn, sizeMeans, matrixTests}
 use Rattle.texts.specs.Multiply.{laid}
 use Rattle.texts.specs.Found.{Found}
 use Rattle.texts.proofs.TextLaws.{head-size, head-few, head-narrow, rows-misread, rows-are, rest-is, words-are, words-long}

@@ -13,7 +13,8 @@ use Rattle.requests.specs.Answers.{first, left, answered}
 use Rattle.requests.specs.Sizes.{over}
 use Rattle.frames.specs.Hex.{hexOf}
 use Rattle.frames.specs.Header.{headerOf, writeHeaderTests, writeHeaderMeans}
-use Rattle.texts.specs.MatrixText.{lineLong, linesOf}
+use Rattle.frames.specs.RowLine.{lineLong}
+use Rattle.texts.specs.MatrixText.{linesOf}
 use Rattle.texts.specs.Multiply.{framesOf, laid}
 use Rattle.texts.proofs.LaidLaws.{laid-more}
 use Rattle.texts.proofs.TextLaws.{lines-long}

@@ -16,10 +16,10 @@ use Rattle.requests.specs.Answers.{Tests, first}
 use Rattle.requests.proofs.AnswerLaws.{append-given, append-none, append-front, first-none}
 use Rattle.frames.specs.Hex.{unframed}
 use Rattle.frames.specs.Header.{sizeOf, readHeaderTests}
-use Rattle.frames.specs.RowLine.{wordsOf}
+use Rattle.frames.specs.RowLine.{lineLong, wordsOf}
 use Rattle.steps.specs.Matrix.{schoolbook}
-use Rattle.matrix.specs.Job.{productSize, totalOf}
-use Rattle.texts.specs.MatrixText.{lineLong, lineAt, misread, wordsRead, sizeIn, wordsIn, restOf, above, headTests, matrixTests}
+use Rattle.matrix.specs.Job.{meant, productSize, totalOf}
+use Rattle.texts.specs.MatrixText.{lineAt, misread, wordsRead, sizeIn, wordsIn, restOf, above, headTests, matrixTests}
 use Rattle.texts.specs.Multiply.{formTests, factorTests, multiplyTests, refusal, productText, answerText, multiplyText}
 use Rattle.texts.proofs.LaidLaws.{refusal-long}
 use Rattle.texts.proofs.TextLaws.{few-words}
@@ -215,5 +215,5 @@ prints-little text = go (first (multiplyTests text)) refl
     go zero e =
         let h = form-passes text e in
         let d = lines-short (sizeIn text .rows) (sizeIn (restOf text) .columns) (few text (first-passes text h)) (narrow (restOf text) (second-passes text h)) in
-        omega (arith, d, frames-long (productSize (sizeIn text) (sizeIn (restOf text))) (encode (sizeIn text .rows) (sizeIn (restOf text) .columns) (schoolbook (sizeIn text .columns) (cell (sizeIn text .columns) (wordsIn text)) (cell (sizeIn (restOf text) .columns) (wordsIn (restOf text))))) (totalOf (sizeIn text) 4 (wordsIn text)))
+        omega (arith, d, frames-long (productSize (sizeIn text) (sizeIn (restOf text))) (encode (sizeIn text .rows) (sizeIn (restOf text) .columns) (schoolbook (sizeIn text .columns) (cell (sizeIn text .columns) (wordsIn text)) (cell (sizeIn (restOf text) .columns) (wordsIn (restOf text))))) (totalOf (sizeIn text) (meant 0) (wordsIn text)))
     go (suc k) e = omega (arith, refusal-long (suc k))

@@ -11,7 +11,7 @@ use Rattle.requests.specs.declared.Size.{Size}
 use Rattle.requests.specs.Answers.{first}
 use Rattle.requests.proofs.AnswerLaws.{append-given, append-none}
 use Rattle.steps.specs.Matrix.{schoolbook}
-use Rattle.matrix.specs.Job.{productSize, totalOf}
+use Rattle.matrix.specs.Job.{meant, productSize, totalOf}
 use Rattle.frames.specs.Header.{readHeaderTests}
 use Rattle.texts.specs.MatrixText.{sizeIn, wordsIn, restOf, headTests, matrixTests}
 use Rattle.texts.specs.Multiply.{formTests, factorTests, multiplyTests, refusal, framesOf, productText, answerText, multiplyText, laid, placed, multiplyMeans}
@@ -34,7 +34,7 @@ module _ (text : List ℕ) (x y : Size) (a b : List ℕ) (form : 0 ≡ first (fo
   unfolding multiplyTests formTests matrixTests headTests readHeaderTests
   factor-tests = rw (ex, ey, ea, eb) (sym (append-none (formTests text) _ tt (sym form)))
 
-  pub product-printed : (out ws : List ℕ) (total : ℕ) → 0 ≡ first (factorTests x y a b) → total ≡ totalOf x 4 a → ws ≡ encode (x .rows) (y .columns) (schoolbook (x .columns) (cell (x .columns) a) (cell (y .columns) b))
+  pub product-printed : (out ws : List ℕ) (total : ℕ) → 0 ≡ first (factorTests x y a b) → total ≡ totalOf x (meant 0) a → ws ≡ encode (x .rows) (y .columns) (schoolbook (x .columns) (cell (x .columns) a) (cell (y .columns) b))
       → printed (framesOf (productSize x y) ws total) out ≡ multiplyMeans text out
   unfolding multiplyMeans multiplyText answerText productText
   product-printed out ws total none et ew =

@@ -13,10 +13,11 @@ use Rattle.requests.specs.Sizes.{over, faults}
 use Rattle.steps.specs.Matrix.{sum, schoolbook}
 use Rattle.steps.specs.Count.{total}
 use Rattle.steps.specs.StepList.{bitsOf, unless0, many, each, tableSteps, rowSteps, blockSteps, blocks, blockWidth, steps}
-use Rattle.frames.specs.Hex.{pick, digitOf, byteOf, nibble, hexOf, valueOf, undigit, unframed}
+use Rattle.matrix.specs.Job.{meant}
+use Rattle.frames.specs.Hex.{digitOf, byteOf, nibble, hexOf, valueOf, undigit, unframed}
 use Rattle.frames.specs.Header.{headerOf, sizeOf, readHeaderTests}
-use Rattle.frames.specs.RowLine.{lineOf, wordsOf}
-use Rattle.texts.specs.MatrixText.{lineLong, lineAt, misread, wordsRead, linesOf, sizeIn, wordsIn, restOf, above, headTests, matrixTests}
+use Rattle.frames.specs.RowLine.{lineLong, lineOf, wordsOf}
+use Rattle.texts.specs.MatrixText.{lineAt, misread, wordsRead, linesOf, sizeIn, wordsIn, restOf, above, headTests, matrixTests}
 use Rattle.texts.specs.Multiply.{formTests, factorTests, multiplyTests, refusal, framesOf, productText, answerText, multiplyText}
 
 input : List ℕ
@@ -37,5 +38,5 @@ output =
     48 ∷ 48 ∷ 48 ∷ 48 ∷ 48 ∷ 48 ∷ 48 ∷ 98 ∷ 10 ∷ []
 
 sample : multiplyText input ≡ output
-unfolding input output multiplyText answerText productText framesOf refusal multiplyTests factorTests formTests matrixTests headTests above restOf wordsIn sizeIn linesOf wordsRead misread lineAt lineLong wordsOf lineOf readHeaderTests sizeOf headerOf unframed undigit valueOf hexOf nibble byteOf digitOf pick steps blockWidth blocks blockSteps rowSteps tableSteps each many unless0 bitsOf total schoolbook sum faults over first padded stray encode plane joined tab cell sign unit bitAt words wide planes wordOf signOf unitOf is bit any
+unfolding input output multiplyText answerText productText framesOf refusal multiplyTests factorTests formTests matrixTests headTests above restOf wordsIn sizeIn linesOf wordsRead misread lineAt lineLong wordsOf lineOf readHeaderTests sizeOf headerOf unframed undigit valueOf hexOf nibble byteOf digitOf steps blockWidth blocks blockSteps rowSteps tableSteps each many unless0 bitsOf meant total schoolbook sum faults over first padded stray encode plane joined tab cell sign unit bitAt words wide planes wordOf signOf unitOf is bit any
 sample = refl

@@ -19,9 +19,9 @@ use Rattle.requests.proofs.AnswerLaws.{here, later, refused, finished, refusal-
 use Rattle.frames.specs.Hex.{hexOf, unframed}
 use Rattle.frames.proofs.HexLaws.{framed}
 use Rattle.frames.specs.Header.{readHeaderTests, readHeaderMeans}
-use Rattle.frames.specs.RowLine.{lineOf, wordsOf, readRowTests, readRowMeans, writeRowTests, writeRowMeans}
+use Rattle.frames.specs.RowLine.{lineLong, lineOf, wordsOf, readRowTests, readRowMeans, writeRowTests, writeRowMeans}
 use Rattle.frames.proofs.LineLaws.{hex-length}
-use Rattle.texts.specs.MatrixText.{lineLong, lineAt, misread, wordsRead, linesOf, sizeIn, wordsIn, restOf, above, headTests, sizeMeans, matrixTests}
+use Rattle.texts.specs.MatrixText.{lineAt, misread, wordsRead, linesOf, sizeIn, wordsIn, restOf, above, headTests, sizeMeans, matrixTests}
 use Rattle.texts.specs.Multiply.{laid}
 use Rattle.texts.proofs.LaidLaws.{joined-laid}
 
@@ -194,7 +194,7 @@ unfolding lineOf
 line-long w ws = length-append (joined w (λ p. hexOf 16 (getD ws p 0))) (10 ∷ []) ∙ ap (λ (n : ℕ). n + 1) (length-joined w 16 _ (λ p. hex-length 16 (getD ws p 0)))
 
 pub row-written : (c : ℕ) (ws line new : List ℕ) (n : ℕ) → c ≤ 1024 → length ws ≡ wide c → length line ≡ wide c * 16 + 1 → _≡_ {A = ℕ × List ℕ} (n, new) (writeRowMeans c ws line) → new ≡ lineOf (wide c) ws
-unfolding writeRowMeans writeRowTests answered left first
+unfolding writeRowMeans writeRowTests lineLong answered left first
 row-written c ws line new n small size room says =
     ap (λ (o : ℕ × List ℕ). o .1) (rw (le-ltb 1024 c small, eq-eqb (length ws) (wide c) size, eq-eqb (length line) (wide c * 16 + 1) room) at says)
 

@@ -9,12 +9,8 @@ use Rattle.requests.specs.declared.Size.{Size}
 use Rattle.requests.specs.Answers.{Tests, answered}
 use Rattle.frames.specs.Hex.{unframed}
 use Rattle.frames.specs.Header.{sizeOf, readHeaderTests}
-use Rattle.frames.specs.RowLine.{lineOf, wordsOf}
+use Rattle.frames.specs.RowLine.{lineLong, lineOf, wordsOf}
 use Rattle.requests.specs.Sizes.{exceeds}
-
--- how many bytes the line of a row has
-unfoldable pub lineLong : ℕ → ℕ
-lineLong c = wide c * 16 + 1
 
 -- line i of those that a text begins with
 unfoldable pub lineAt : ℕ → List ℕ → ℕ → List ℕ

@@ -9,7 +9,7 @@ use Rattle.requests.specs.declared.Size.{Size}
 use Rattle.requests.specs.Answers.{Tests, first}
 use Rattle.requests.specs.Sizes.{faults}
 use Rattle.steps.specs.Matrix.{schoolbook}
-use Rattle.matrix.specs.Job.{productSize, totalOf, unmatched}
+use Rattle.matrix.specs.Job.{meant, productSize, totalOf, unmatched}
 use Rattle.frames.specs.Hex.{hexOf}
 use Rattle.frames.specs.Header.{headerOf}
 use Rattle.texts.specs.MatrixText.{linesOf, sizeIn, wordsIn, restOf, matrixTests}
@@ -33,10 +33,10 @@ refusal n = (114 ∷ 101 ∷ 102 ∷ 117 ∷ 115 ∷ 101 ∷ 100 ∷ 32 ∷ []) 
 unfoldable pub framesOf : Size → List ℕ → ℕ → List ℕ
 framesOf s ws total = headerOf s ++ (linesOf (s .rows) (s .columns) ws ++ (hexOf 8 total ++ (10 ∷ [])))
 
--- the schoolbook product of x and y, and the exact total at width 4
+-- the schoolbook product of x and y, and the exact total at the default width
 unfoldable pub productText : Size → Size → List ℕ → List ℕ → List ℕ
 productText x y a b =
-    framesOf (productSize x y) (encode (x .rows) (y .columns) (schoolbook (x .columns) (cell (x .columns) a) (cell (y .columns) b))) (totalOf x 4 a)
+    framesOf (productSize x y) (encode (x .rows) (y .columns) (schoolbook (x .columns) (cell (x .columns) a) (cell (y .columns) b))) (totalOf x (meant 0) a)
 
 unfoldable pub answerText : ℕ → List ℕ → List ℕ
 answerText zero text = text

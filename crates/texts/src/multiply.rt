@@ -5,7 +5,7 @@ ghost use lib.ListN.{length, take};
 ghost use Rattle.buffers.specs.Buffer.{words, cell, encode};
 ghost use Rattle.requests.specs.Answers.{number, first};
 ghost use Rattle.steps.specs.Matrix.{schoolbook};
-ghost use Rattle.matrix.specs.Job.{totalOf};
+ghost use Rattle.matrix.specs.Job.{meant, totalOf};
 ghost use Rattle.texts.specs.MatrixText.{sizeIn, wordsIn, restOf};
 ghost use Rattle.texts.specs.Multiply.{formTests, factorTests, multiplyMeans};
 ghost use Rattle.texts.specs.Found.{Factors};
@@ -88,7 +88,7 @@ fn long(s: Size) -> usize
 // The product at width 0, and the exact total.
 fn made(x: Size, y: Size, a: &[u64], b: &[u64], table: &mut [u64], out: &mut [u64]) -> Outcome
     requires { ⌜ (x .rows ≤ 128) × (x .columns ≤ 128) × (y .rows ≤ 128) × (y .columns ≤ 128) × (length (now a) ≡ words (x .rows) (x .columns)) × (length (now b) ≡ words (y .rows) (y .columns)) × (length (now table) ≡ words 16 (y .columns)) × (length (now out) ≡ words (x .rows) (y .columns)) ⌝ }
-    ensures { λ r. ⌜ (number (r .answer) ≡ first (factorTests x y (now (a .entry)) (now (b .entry)))) × (number (r .answer) ≡ 0 → (r .total ≡ totalOf x 4 (now (a .entry))) × (now (out .exit) ≡ encode (x .rows) (y .columns) (schoolbook (x .columns) (cell (x .columns) (now (a .entry))) (cell (y .columns) (now (b .entry)))))) ⌝ }
+    ensures { λ r. ⌜ (number (r .answer) ≡ first (factorTests x y (now (a .entry)) (now (b .entry)))) × (number (r .answer) ≡ 0 → (r .total ≡ totalOf x (meant 0) (now (a .entry))) × (now (out .exit) ≡ encode (x .rows) (y .columns) (schoolbook (x .columns) (cell (x .columns) (now (a .entry))) (cell (y .columns) (now (b .entry)))))) ⌝ }
 {
     let f = product(x, y, 0, a, b, table, out);
     if number(f) != 0 {

@@ -1,5 +1,5 @@
 use borrow.Author.Tests.{lt-ltb, le-ltb}
-use Rattle.frames.specs.Hex.{pick, byteOf}
+use Rattle.frames.specs.Hex.{byteOf}
 use borrow.Author.Needs.{needs}
 use Rattle.frames.proofs.digit.byte_of.Statement.{statement}
 use Rattle.frames.proofs.digit.byte_of.Tie as tie
@@ -11,7 +11,7 @@ cast-result : tie.Need-cast-result
 cast-result c = search needs
 
 returns : tie.Need-returns
-unfolding byteOf pick
+unfolding byteOf
 returns c = simp (lt-ltb _ 10 (c .if1 .taken))
 
 add-result-2 : tie.Need-add-result-2
@@ -21,7 +21,7 @@ cast-result-2 : tie.Need-cast-result-2
 cast-result-2 c = search needs
 
 returns-2 : tie.Need-returns-2
-unfolding byteOf pick
+unfolding byteOf
 returns-2 c = simp (le-ltb _ 10 (c .if1 .left))
 
 pub byte-of-spec : {M : Type 1} → statement M

@@ -3,7 +3,7 @@ use Prim.Native.Nat.{ℕ, _-_, _*_}
 use lib.ListN.{drop, length-take, length-drop}
 use Rattle.buffers.specs.Buffer.{planes, wide, words}
 use Rattle.requests.specs.Answers.{number}
-use Rattle.texts.specs.MatrixText.{lineLong}
+use Rattle.frames.specs.RowLine.{lineLong}
 use Rattle.texts.proofs.TextLaws.{head-few, head-narrow, head-refused, head-within, few-words}
 use Rattle.texts.proofs.FoundLaws.{found-misread, found-none, found}
 use borrow.Author.Needs.{needs}

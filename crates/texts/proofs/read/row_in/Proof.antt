@@ -3,7 +3,7 @@ use mathlib.Core.Bool.{true≢false}
 use Prim.Native.Nat.{_+_, _-_, _*_}
 use lib.ListN.{take, drop, length-take, length-drop}
 use Rattle.buffers.specs.Buffer.{wide}
-use Rattle.texts.specs.MatrixText.{lineLong}
+use Rattle.frames.specs.RowLine.{lineLong}
 use Rattle.frames.proofs.RowLaws.{wide-le}
 use Rattle.texts.proofs.TextLaws.{short-frame, row-read}
 use native.Mathlib.Omega.{arith}

@@ -5,10 +5,10 @@ use mathlib.Core.List.{List, _++_}
 use lib.ListN.{length, take, drop, length-drop}
 use lib.Seq.{length-take-le}
 use Rattle.frames.specs.Hex.{unframed}
-use Rattle.frames.specs.RowLine.{wordsOf}
+use Rattle.frames.specs.RowLine.{lineLong, wordsOf}
 use Rattle.buffers.specs.Buffer.{planes, wide, words, joined}
 use Rattle.buffers.proofs.SizeLaws.{planes-le, words-le, row-fits}
-use Rattle.texts.specs.MatrixText.{lineLong, misread, wordsRead}
+use Rattle.texts.specs.MatrixText.{misread, wordsRead}
 use Rattle.texts.specs.Multiply.{laid}
 use Rattle.texts.proofs.LaidLaws.{laid-length, laid-all}
 use Rattle.texts.proofs.TextLaws.{misread-none, line-found, misread-more, misread-stop, words-long, words-more}
