@@ -1,4 +1,4 @@
--- Words at equal distances: written one after another, and turned. Assumes nothing.
+-- Words at equal distances: written one after another, and transposed. Assumes nothing.
 use mathlib.Core.Path.{_≡_, refl, sym, ap, _∙_}
 use mathlib.Core.List.{List}
 use Prim.Native.Nat.{ℕ, zero, suc, _+_, _*_, _^_, _≤_, _<_}
@@ -12,8 +12,8 @@ use Rattle.cells.proofs.BitLaws.{bit-lt}
 use Rattle.cells.proofs.WordLaws.{wordOf-lt, wordOf-bit, bit-high, bit-of-zero, ext}
 use Rattle.buffers.specs.Buffer.{tab}
 use Rattle.rows.specs.Row.{Written}
-use Rattle.blocks64.specs.Turn.{Turned}
-use Rattle.blocks64.specs.Block.{turnedWord, Spread}
+use Rattle.blocks64.specs.Transpose.{Transposed}
+use Rattle.blocks64.specs.Block.{transposedWord, Spread}
 use Rattle.blocks64.proofs.ExchangeLaws.{part-ends}
 
 pub spread-none : (f : ℕ → ℕ) (x w : ℕ) (old : List ℕ) → Spread f x w 0 old old
@@ -35,11 +35,11 @@ spread-next f x w n at v old mid pos e room same S = record {
 pub spread-cong : (f g : ℕ → ℕ) (x w n : ℕ) (old new : List ℕ) → ((t : ℕ) → t < n → f t ≡ g t) → Spread f x w n old new → Spread g x w n old new
 spread-cong f g x w n old new same S = record { long = S .long; spread = λ t l. S .spread t l ∙ same t l; kept = S .kept }
 
--- a block of n words, and of zeros from there on, that is turned
-pub turned-word : (a : List ℕ) (x w n : ℕ) (none block new : List ℕ) → n ≤ 64 → ((t : ℕ) → getD none t 0 ≡ 0) → Written (λ t. getD a (x + t * w) 0) 0 n none block → Turned block new
-    → (t : ℕ) → t < 64 → getD new t 0 < 2 ^ 64 → getD new t 0 ≡ turnedWord a x w n t
-unfolding turnedWord
-turned-word a x w n none block new h zeros W T t l fits = ext 64 _ _ fits (omega (arith, wordOf-lt f n small, pow-mono h)) (λ s k. T .turned t s l k ∙ go s (decLt s n))
+-- a block of n words, and of zeros from there on, that is transposed
+pub transposed-word : (a : List ℕ) (x w n : ℕ) (none block new : List ℕ) → n ≤ 64 → ((t : ℕ) → getD none t 0 ≡ 0) → Written (λ t. getD a (x + t * w) 0) 0 n none block → Transposed block new
+    → (t : ℕ) → t < 64 → getD new t 0 < 2 ^ 64 → getD new t 0 ≡ transposedWord a x w n t
+unfolding transposedWord
+transposed-word a x w n none block new h zeros W T t l fits = ext 64 _ _ fits (omega (arith, wordOf-lt f n small, pow-mono h)) (λ s k. T .transposed t s l k ∙ go s (decLt s n))
   where
     f : ℕ → ℕ
     f s = bit (getD a (x + s * w) 0) t

@@ -1,4 +1,4 @@
--- One stage of a turn of 64 words. Assumes nothing.
+-- One stage of transposing 64 words. Assumes nothing.
 use mathlib.Core.Path.{_≡_}
 use mathlib.Core.List.{List}
 use Prim.Native.Nat.{ℕ, _+_, _*_, _/_, _%_, _^_, _≤_, _<_}

@@ -1,3 +1,3 @@
 pub mod Exchange
-pub mod Turn
+pub mod Transpose
 pub mod Block

@@ -1,4 +1,4 @@
-// One stage of a turn: each word exchanges bits with the word h words after it.
+// One stage of transposing: each word exchanges bits with the word h words after it.
 ghost use mathlib.Core.Path.{_≡_};
 ghost use Prim.Native.Nat.{_+_, _*_, _≤_, _<_};
 ghost use lib.ListN.{length, getD, set};

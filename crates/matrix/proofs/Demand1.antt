@@ -21,7 +21,7 @@ use Rattle.matrix.specs.Sum.{sumOf, sumMeans}
 use Rattle.matrix.specs.Difference.{differenceOf, differenceMeans}
 use Rattle.matrix.specs.Negation.{negationOf, negationMeans}
 use Rattle.matrix.specs.Scaling.{scalingOf, scalingTests, scalingMeans}
-use Rattle.matrix.specs.Transpose.{turned, transposeOf, transposeMeans}
+use Rattle.matrix.specs.Transpose.{transposedSize, transposeOf, transposeMeans}
 use Rattle.matrix.specs.Tally.{count, tallyMeans}
 use Rattle.matrix.specs.declared.job.Job.{Job}
 use Rattle.matrix.specs.Job.{meant, totalOf}
@@ -58,9 +58,9 @@ pub scaling-exact : (s : Size) (d : ℕ) (a out : List ℕ) (r : Answer) (o : Li
 unfolding scalingMeans scalingTests faults
 scaling-exact s d a out r o says = exact (scalingTests s d a (length out)) out (scalingOf d (s .rows) (s .columns) a) (number r) o tt says
 
-pub transpose-exact : (s : Size) (a out : List ℕ) (r : Answer) (o : List ℕ) → (number r, o) ≡ transposeMeans s a out → Exact (singleTests s (turned s) a (length out)) out (transposeOf (s .rows) (s .columns) a) (number r) o
+pub transpose-exact : (s : Size) (a out : List ℕ) (r : Answer) (o : List ℕ) → (number r, o) ≡ transposeMeans s a out → Exact (singleTests s (transposedSize s) a (length out)) out (transposeOf (s .rows) (s .columns) a) (number r) o
 unfolding transposeMeans singleTests faults
-transpose-exact s a out r o says = exact (singleTests s (turned s) a (length out)) out (transposeOf (s .rows) (s .columns) a) (number r) o tt says
+transpose-exact s a out r o says = exact (singleTests s (transposedSize s) a (length out)) out (transposeOf (s .rows) (s .columns) a) (number r) o tt says
 
 pub pack-exact : (s : Size) (cells out : List ℕ) (r : Answer) (o : List ℕ) → (number r, o) ≡ packMeans s cells out → Exact (packTests s cells (length out)) out (packOf (s .rows) (s .columns) cells) (number r) o
 unfolding packMeans packTests

@@ -13,12 +13,12 @@ use Rattle.cells.specs.Bit.{bit, wordOf}
 use Rattle.cells.specs.Pair.{WordPair}
 use Rattle.buffers.specs.Buffer.{planes, wide, words, unit, sign, cell, Legal, encode}
 use Rattle.buffers.proofs.SizeLaws.{planes-le, row-fits, bitAt-word, unit-small, sign-small}
-use Rattle.blocks64.specs.Block.{InSteps, turnedWord, Spread}
+use Rattle.blocks64.specs.Block.{Spaced, transposedWord, Spread}
 use Rattle.requests.specs.declared.Size.{Size}
 use Rattle.requests.specs.Sizes.{over}
 use Rattle.rows.proofs.MatrixLaws.{RowsMade, rows-all, row-ends}
 use Rattle.matrix.specs.Gathered.{upTo}
-use Rattle.matrix.specs.Transpose.{turned}
+use Rattle.matrix.specs.Transpose.{transposedSize}
 use Rattle.matrix.specs.RowBlocks.{column, WordMade, BlockMade}
 use Rattle.matrix.proofs.GatherLaws.{up-in, up-out, gathered-holds}
 
@@ -30,7 +30,7 @@ in-row p u k t = omega (arith, add-mul (64 * p) t (2 * u))
 
 -- word k of those rows
 pub block-in : (r c p u k x long : ℕ) → r ≤ 1024 → c ≤ 1024 → u ≡ planes c → p < planes r → k < u + u → long ≡ words r c → x ≡ 64 * p * (2 * u) + k
-    → InSteps x (2 * u) (min 64 (r - 64 * p)) long
+    → Spaced x (2 * u) (min 64 (r - 64 * p)) long
 block-in r c p u k x long hr hc e l h el ex =
     let near : 2 * u ≤ 32 = omega (arith, planes-le c hc) in
     let far : 64 * p ≤ 960 = omega (arith, planes-le r hr) in
@@ -54,8 +54,8 @@ module _ (r c : ℕ) (a : List ℕ) (k t p u : ℕ) (l : t < 64) (e : u ≡ plan
 
   -- bit t of them, gathered, holds the digits of column 64 k + t
   pub column-holds : Legal r c a → 64 * k + t < c
-      → WordPair (column r c a (64 * k + t) p) (turnedWord a (64 * p * (2 * u) + k) (2 * u) (min 64 (r - 64 * p)) t) (turnedWord a (64 * p * (2 * u) + k + u) (2 * u) (min 64 (r - 64 * p)) t)
-  unfolding column cell turnedWord
+      → WordPair (column r c a (64 * k + t) p) (transposedWord a (64 * p * (2 * u) + k) (2 * u) (min 64 (r - 64 * p)) t) (transposedWord a (64 * p * (2 * u) + k + u) (2 * u) (min 64 (r - 64 * p)) t)
+  unfolding column cell transposedWord
   column-holds L h =
       let n : ℕ = min 64 (r - 64 * p) in
       gathered-holds (λ s. unit c a (64 * p + s) (64 * k + t)) (λ s. sign c a (64 * p + s) (64 * k + t)) n _ _ (omega arith)
@@ -117,6 +117,6 @@ transposed q r c a new e R =
     (λ i p t h m k l. up-in (min 64 (r - 64 * p)) (λ t. cell c a (64 * p + t) i) t (omega arith))
     (λ i p t h m k l. up-out (min 64 (r - 64 * p)) (λ t. cell c a (64 * p + t) i) t (omega arith)) R
 
-pub turned-over : (s : Size) → over s ≡ over (turned s)
+pub transposed-over : (s : Size) → over s ≡ over (transposedSize s)
 unfolding over
-turned-over s = or-comm (ltb 1024 (s .rows)) (ltb 1024 (s .columns))
+transposed-over s = or-comm (ltb 1024 (s .rows)) (ltb 1024 (s .columns))

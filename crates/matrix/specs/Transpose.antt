@@ -8,11 +8,11 @@ use Rattle.requests.specs.Answers.{answered}
 use Rattle.requests.specs.Single.{singleTests}
 
 -- rows for columns
-abbrev pub turned : Size → Size
-turned s = record { rows = s .columns; columns = s .rows }
+abbrev pub transposedSize : Size → Size
+transposedSize s = record { rows = s .columns; columns = s .rows }
 
 unfoldable pub transposeOf : ℕ → ℕ → List ℕ → List ℕ
 transposeOf r c a = encode c r (λ i j. cell c a j i)
 
 unfoldable pub transposeMeans : Size → List ℕ → List ℕ → ℕ × List ℕ
-transposeMeans s a out = answered (singleTests s (turned s) a (length out)) out (transposeOf (s .rows) (s .columns) a)
+transposeMeans s a out = answered (singleTests s (transposedSize s) a (length out)) out (transposeOf (s .rows) (s .columns) a)

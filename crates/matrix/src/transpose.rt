@@ -15,7 +15,7 @@ use requests::number;
 use requests::single::judged;
 
 // Word p of the rows of the transpose from row 64 k on, both planes. A plane of the matrix has u words, one of the transpose q.
-fn turn_block(
+fn transpose_block(
     r: usize,
     c: usize,
     a: &[u64],
@@ -38,13 +38,13 @@ fn turn_block(
     block(a, x + u, w, n, out, y + q, v, m);
 }
 
-fn turn_rows(r: usize, c: usize, a: &[u64], out: &mut [u64], k: usize, u: usize, q: usize)
+fn transpose_64_rows(r: usize, c: usize, a: &[u64], out: &mut [u64], k: usize, u: usize, q: usize)
     requires { ⌜ (r ≤ 1024) × (c ≤ 1024) × Legal r c (now a) × (length (now out) ≡ words c r) × (u ≡ planes c) × (q ≡ planes r) × (k < u) ⌝ }
     ensures { λ _. ⌜ BlockMade (λ t. column r c (now (a .entry)) (64 * k + t)) (64 * k * (2 * q)) q (min 64 (c - 64 * k)) q (now (out .entry)) (now (out .exit)) ⌝ }
 {
     let mut p = 0;
     while p < q {
-        turn_block(r, c, a, out, k, p, u, q);
+        transpose_block(r, c, a, out, k, p, u, q);
         p += 1;
     }
 }
@@ -57,7 +57,7 @@ fn transpose_rows(r: usize, c: usize, a: &[u64], out: &mut [u64])
     let q = planes(r);
     let mut k = 0;
     while k < u {
-        turn_rows(r, c, a, out, k, u, q);
+        transpose_64_rows(r, c, a, out, k, u, q);
         k += 1;
     }
 }

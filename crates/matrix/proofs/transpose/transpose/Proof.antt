@@ -1,14 +1,14 @@
 use mathlib.Core.Path.{sym, _∙_}
-use Rattle.matrix.specs.Transpose.{transposeMeans, turned}
+use Rattle.matrix.specs.Transpose.{transposeMeans, transposedSize}
 use Rattle.requests.proofs.SingleLaws.{ready}
-use Rattle.matrix.proofs.TransposeLaws.{turned-over}
+use Rattle.matrix.proofs.TransposeLaws.{transposed-over}
 use Rattle.requests.proofs.AnswerLaws.{refused, finished}
 use borrow.Author.Needs.{needs}
 use Rattle.matrix.proofs.transpose.transpose.Statement.{statement}
 use Rattle.matrix.proofs.transpose.transpose.Tie as tie
 
 judged-requires : tie.Need-judged-requires
-judged-requires c κs = turned-over (c .before .before .args .s)
+judged-requires c κs = transposed-over (c .before .before .args .s)
 
 number-requires : tie.Need-number-requires
 number-requires c κs = search needs
@@ -19,7 +19,7 @@ returns c = refused _ _ _ _ (λ z. c .if1 .taken (c .before .number .ensures ∙
 
 transpose-rows-requires : tie.Need-transpose-rows-requires
 transpose-rows-requires c κs =
-    let r = ready (c .before .before .before .before .before .before .args .s) (turned (c .before .before .before .before .before .before .args .s)) (c .before .before .before .before .before .before .args .a .now) _ (sym (c .before .before .before .judged .ensures) ∙ sym (c .before .before .number .ensures) ∙ c .before .if1 .left) in
+    let r = ready (c .before .before .before .before .before .before .args .s) (transposedSize (c .before .before .before .before .before .before .args .s)) (c .before .before .before .before .before .before .args .a .now) _ (sym (c .before .before .before .judged .ensures) ∙ sym (c .before .before .number .ensures) ∙ c .before .if1 .left) in
     (r .rows, r .columns, r .legal, r .room)
 
 same-length : tie.Need-same-length

@@ -27,8 +27,8 @@ loop-holds c =
     let e : min (64 * 0) (c .before .before .before .before .args .c) ≡ 0 = omega arith in
     (omega arith, rw e (rows-none _ _ _))
 
-turn-rows-requires : tie.Need-turn-rows-requires Inv-loop μ-loop
-turn-rows-requires c κs = (c .before .before .before .before .before .before .before .pre .0, c .before .before .before .before .before .before .before .pre .1, c .before .before .before .before .before .before .before .pre .2, c .before .before .loop .inv .1 .len ∙ c .before .before .before .before .before .before .before .pre .3, c .before .before .before .before .planes .ensures, c .before .before .before .planes2 .ensures, omega arith)
+transpose-64-rows-requires : tie.Need-transpose-64-rows-requires Inv-loop μ-loop
+transpose-64-rows-requires c κs = (c .before .before .before .before .before .before .before .pre .0, c .before .before .before .before .before .before .before .pre .1, c .before .before .before .before .before .before .before .pre .2, c .before .before .loop .inv .1 .len ∙ c .before .before .before .before .before .before .before .pre .3, c .before .before .before .before .planes .ensures, c .before .before .before .planes2 .ensures, omega arith)
 
 add-k : tie.Need-add-k Inv-loop μ-loop
 add-k c = omega arith
@@ -40,7 +40,7 @@ loop-again : tie.Need-loop-again Inv-loop μ-loop
 loop-again c =
     let now : min (64 * c .before .before .before .before .before .loop .k) (c .before .before .before .before .before .before .before .before .before .before .args .c) ≡ 64 * c .before .before .before .before .before .loop .k = omega (arith, c .before .before .before .before .before .before .before .planes .ensures, planes-tight (c .before .before .before .before .before .before .before .before .before .before .args .c)) in
     let next : 64 * c .before .before .before .before .before .loop .k + min 64 (c .before .before .before .before .before .before .before .before .before .before .args .c - 64 * c .before .before .before .before .before .loop .k) ≡ min (64 * (c .before .before .before .before .before .loop .k + 1)) (c .before .before .before .before .before .before .before .before .before .before .args .c) = omega (arith, c .before .before .before .before .before .before .before .planes .ensures, planes-tight (c .before .before .before .before .before .before .before .before .before .before .args .c)) in
-    (omega arith, rw next at (rows-block _ _ _ _ _ _ _ (rw now at (c .before .before .before .before .before .loop .inv .1)) (c .before .before .turn-rows .ensures)))
+    (omega arith, rw next at (rows-block _ _ _ _ _ _ _ (rw now at (c .before .before .before .before .before .loop .inv .1)) (c .before .before .transpose-64-rows .ensures)))
 
 same-length : tie.Need-same-length Inv-loop μ-loop
 same-length c = c .before .loop .inv .1 .len
@@ -60,7 +60,7 @@ transpose-rows-spec =
     planes-requires
     planes-requires-2
     loop-holds
-    turn-rows-requires
+    transpose-64-rows-requires
     add-k
     loop-less
     loop-again

@@ -3,8 +3,8 @@ use Prim.Native.Nat.{_+_}
 use Rattle.buffers.proofs.SizeLaws.{planes-le, planes-tight}
 use Rattle.matrix.proofs.TransposeLaws.{block-in, column-holds, word-made}
 use native.Mathlib.Omega.{arith}
-use Rattle.matrix.proofs.transpose.turn_block.Statement.{statement}
-use Rattle.matrix.proofs.transpose.turn_block.Tie as tie
+use Rattle.matrix.proofs.transpose.transpose_block.Statement.{statement}
+use Rattle.matrix.proofs.transpose.transpose_block.Tie as tie
 
 mul-w : tie.Need-mul-w
 mul-w c = omega (arith, planes-le _ (c .before .before .pre .1))
@@ -65,8 +65,8 @@ returns c =
     (λ t l. column-holds (c .before .before .before .before .before .before .before .before .before .before .before .before .args .r) (c .before .before .before .before .before .before .before .before .before .before .before .before .args .c) (c .before .before .before .before .before .before .before .before .before .before .before .before .args .a .now) (c .before .before .before .before .before .before .before .before .before .before .before .before .args .k) t (c .before .before .before .before .before .before .before .before .before .before .before .before .args .p) (c .before .before .before .before .before .before .before .before .before .before .before .before .args .u) (omega arith) (c .before .before .before .before .before .before .before .before .before .before .before .before .pre .4) (c .before .before .before .before .before .before .before .before .before .before .before .before .pre .2) (omega arith))
     (rw (c .before .before .before .before .before .before .before .before .before .real .ensures, c .before .before .before .before .before .before .before .before .real2 .ensures) at (c .before .before .before .before .before .before .block .ensures)) (rw (c .before .before .before .before .before .before .before .before .before .real .ensures, c .before .before .before .before .before .before .before .before .real2 .ensures) at (c .before .before .block2 .ensures))
 
-pub turn-block-spec : {M : Type 1} → statement M
-turn-block-spec =
+pub transpose-block-spec : {M : Type 1} → statement M
+transpose-block-spec =
     tie.close
     (tie.spec
     mul-w

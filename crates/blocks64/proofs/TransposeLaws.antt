@@ -18,7 +18,7 @@ use Rattle.cells.proofs.BitLaws.{bits, bit-lt, bit-and, bit-xor}
 use Rattle.cells.proofs.WordLaws.{bit-shr, bit-mod, bit-shl-low, bit-shl-high}
 use Rattle.buffers.proofs.BufferLaws.{by-row}
 use Rattle.blocks64.specs.Exchange.{apart, lower, upper, Stage}
-use Rattle.blocks64.specs.Turn.{Turned}
+use Rattle.blocks64.specs.Transpose.{Transposed}
 
 -- ---- equations that antt computes, for all numbers below n
 
@@ -222,13 +222,13 @@ mask-1 : Mask 1 6148914691236517205
 unfolding any half bit
 mask-1 = record { low = below _ _ 64 refl; high = below _ _ 64 refl; room = below _ _ 64 refl }
 
-pub turned-by-stages : (a b c d e f g : List ℕ)
+pub transposed-by-stages : (a b c d e f g : List ℕ)
     → Stage 32 4294967295 1 a b → Stage 16 281470681808895 2 b c → Stage 8 71777214294589695 4 c d
-    → Stage 4 1085102592571150095 8 d e → Stage 2 3689348814741910323 16 e f → Stage 1 6148914691236517205 32 f g → Turned a g
+    → Stage 4 1085102592571150095 8 d e → Stage 2 3689348814741910323 16 e f → Stage 1 6148914691236517205 32 f g → Transposed a g
 unfolding stages
-turned-by-stages a b c d e f g A B C D E F = record {
+transposed-by-stages a b c d e f g A B C D E F = record {
   long = F .long ∙ E .long ∙ D .long ∙ C .long ∙ B .long ∙ A .long;
-  turned = λ i t l k. all i t l k ∙ ap₂ (λ (i t : ℕ). bit (getD a i 0) t) (swap i t l k) (swap t i k l);
+  transposed = λ i t l k. all i t l k ∙ ap₂ (λ (i t : ℕ). bit (getD a i 0) t) (swap i t l k) (swap t i k l);
 }
   where
     all : Sent (1 ∷ 2 ∷ 4 ∷ 8 ∷ 16 ∷ 32 ∷ []) a g
