@@ -4,3 +4,4 @@ pub mod JobCarryLaws
 pub mod Outcomes
 pub mod Refusals
 pub mod Turns
+pub mod Impostors

@@ -7,3 +7,4 @@ pub mod RowLaws
 pub mod RoundTrips
 pub mod Outcomes
 pub mod Examples
+pub mod Impostors

@@ -1,6 +1,7 @@
 -- Shown out by demand 2: an implementation that refuses everything, and one with a fixed answer. A table of sums of one cell, computed from
--- the requests' own statements, says that each request has two inputs that are done and leave different things. Assumes nothing.
-use mathlib.Core.Path.{_≡_, refl, sym, ap, _∙_}
+-- the requests' own statements, says that each request has two inputs that are done and leave different things, though all but one matrix is
+-- the same in both. Assumes nothing.
+use mathlib.Core.Path.{_≡_, refl, ap}
 use mathlib.Core.Bool.{Bool, true, false}
 use mathlib.Core.List.{List, [], _∷_}
 use Prim.Native.Nat.{ℕ}
@@ -13,11 +14,11 @@ use Rattle.cells.specs.Digit.{add3, sub3, neg3, mul3, unitOf, signOf}
 use Rattle.buffers.specs.Buffer.{planes, wide, words, bitAt, unit, sign, cell, tab, joined, plane, encode}
 use Rattle.buffers.specs.Fault.{stray, padded}
 use Rattle.requests.specs.declared.Size.{Size}
-use Rattle.requests.specs.declared.Answer.{Answer}
 use Rattle.requests.specs.Answers.{number, first, left, answered}
 use Rattle.requests.specs.Sizes.{over, unfit, faults}
 use Rattle.requests.specs.Single.{singleTests}
 use Rattle.requests.specs.Pair.{unequal, unfits, pairTests}
+use Rattle.requests.proofs.ShownOut.{ShownOut, shown-out, AnswerShownOut, answer-shown-out}
 use Rattle.matrix.specs.Unpacked.{byteAt, bytes, unlike}
 use Rattle.matrix.specs.Check.{checkTests, checkMeans}
 use Rattle.matrix.specs.Pack.{packOf, packTests, packMeans}
@@ -73,19 +74,6 @@ sums = record {
   tallied = (refl, refl);
 }
 
--- I is what a request is handed, S what it leaves: f answers every request as its statement says
-abbrev Meets : {I S : Type 0} → (I → ℕ × S) → (I → Answer × S) → Type 0
-Meets {I = I} means f = (i : I) → (number (f i .0), f i .1) ≡ means i
-
-abbrev ShownOut : {I S : Type 0} → (I → ℕ × S) → Type 0
-ShownOut {I = I} {S = S} means = (f : I → Answer × S) → Meets means f → (((k : I) → number (f k .0) ≡ 0 → ⊥) → ⊥) × (((k l : I) → f k ≡ f l) → ⊥)
-
-shown-out : {I S : Type 0} (means : I → ℕ × S) (i j : I) (s t : S) → means i ≡ (0, s) → means j ≡ (0, t) → (s ≡ t → ⊥) → ShownOut means
-shown-out {I = I} {S = S} means i j s t p q differ f meets = (
-  λ refuses. refuses i (ap (λ (o : ℕ × S). o .0) (meets i ∙ p)),
-  λ fixed. differ (ap (λ (o : ℕ × S). o .1) (sym p ∙ sym (meets i) ∙ ap (λ (o : Answer × S). (number (o .0), o .1)) (fixed i j) ∙ meets j ∙ q)),
-)
-
 -- 2 is not 1, in its words and in a byte
 two-one : two1 ≡ one1 → ⊥
 two-one e = let z : _≡_ {A = ℕ} 1 0 = ap (λ (l : List ℕ). getD l 1 0) e in omega arith
@@ -99,40 +87,29 @@ two-zero e = let z : _≡_ {A = ℕ} 1 0 = ap (λ (l : List ℕ). getD l 0 0) e 
 tallies-differ : _≡_ {A = List ℕ × Bool} (0 ∷ 1 ∷ 0 ∷ [], false) (1 ∷ 0 ∷ 0 ∷ [], true) → ⊥
 tallies-differ e = let z : _≡_ {A = ℕ} 0 1 = ap (λ (v : List ℕ × Bool). getD (v .0) 0 0) e in omega arith
 
-abbrev Two : Type 0
-Two = Size × Size × List ℕ × List ℕ × List ℕ
+pub sum-shown-out : ShownOut {X = Size × Size × List ℕ × List ℕ} {I = List ℕ} {S = List ℕ} number (λ x b. sumMeans (x .0) (x .1) (x .2) b (x .3))
+sum-shown-out = shown-out number _ (one, one, one1, zero1) one1 two1 two1 zero1 (sums .added .0) (sums .added .1) two-zero
 
-abbrev Single : Type 0
-Single = Size × List ℕ × List ℕ
+pub difference-shown-out : ShownOut {X = Size × Size × List ℕ × List ℕ} {I = List ℕ} {S = List ℕ} number (λ x a. differenceMeans (x .0) (x .1) a (x .2) (x .3))
+difference-shown-out = shown-out number _ (one, one, one1, zero1) zero1 two1 two1 one1 (sums .subtracted .0) (sums .subtracted .1) two-one
 
-pub sum-shown-out : ShownOut {I = Two} {S = List ℕ} (λ i. sumMeans (i .0) (i .1) (i .2) (i .3) (i .4))
-sum-shown-out = shown-out _ (one, one, one1, one1, zero1) (one, one, one1, two1, zero1) two1 zero1 (sums .added .0) (sums .added .1) two-zero
+pub negation-shown-out : ShownOut {X = Size × List ℕ} {I = List ℕ} {S = List ℕ} number (λ x a. negationMeans (x .0) a (x .1))
+negation-shown-out = shown-out number _ (one, zero1) one1 two1 two1 one1 (sums .negated .0) (sums .negated .1) two-one
 
-pub difference-shown-out : ShownOut {I = Two} {S = List ℕ} (λ i. differenceMeans (i .0) (i .1) (i .2) (i .3) (i .4))
-difference-shown-out = shown-out _ (one, one, zero1, one1, zero1) (one, one, two1, one1, zero1) two1 one1 (sums .subtracted .0) (sums .subtracted .1) two-one
+pub scaling-shown-out : ShownOut {X = Size × ℕ × List ℕ} {I = List ℕ} {S = List ℕ} number (λ x a. scalingMeans (x .0) (x .1) a (x .2))
+scaling-shown-out = shown-out number _ (one, 2, zero1) one1 two1 two1 one1 (sums .scaled .0) (sums .scaled .1) two-one
 
-pub negation-shown-out : ShownOut {I = Single} {S = List ℕ} (λ i. negationMeans (i .0) (i .1) (i .2))
-negation-shown-out = shown-out _ (one, one1, zero1) (one, two1, zero1) two1 one1 (sums .negated .0) (sums .negated .1) two-one
+pub transpose-shown-out : ShownOut {X = Size × List ℕ} {I = List ℕ} {S = List ℕ} number (λ x a. transposeMeans (x .0) a (x .1))
+transpose-shown-out = shown-out number _ (one, zero1) two1 one1 two1 one1 (sums .transposed .0) (sums .transposed .1) two-one
 
-pub scaling-shown-out : ShownOut {I = Size × ℕ × List ℕ × List ℕ} {S = List ℕ} (λ i. scalingMeans (i .0) (i .1) (i .2) (i .3))
-scaling-shown-out = shown-out _ (one, 2, one1, zero1) (one, 2, two1, zero1) two1 one1 (sums .scaled .0) (sums .scaled .1) two-one
+pub pack-shown-out : ShownOut {X = Size × List ℕ} {I = List ℕ} {S = List ℕ} number (λ x a. packMeans (x .0) a (x .1))
+pack-shown-out = shown-out number _ (one, zero1) (2 ∷ []) (1 ∷ []) two1 one1 (sums .packed .0) (sums .packed .1) two-one
 
-pub transpose-shown-out : ShownOut {I = Single} {S = List ℕ} (λ i. transposeMeans (i .0) (i .1) (i .2))
-transpose-shown-out = shown-out _ (one, two1, zero1) (one, one1, zero1) two1 one1 (sums .transposed .0) (sums .transposed .1) two-one
+pub unpack-shown-out : ShownOut {X = Size × List ℕ} {I = List ℕ} {S = List ℕ} number (λ x a. unpackMeans (x .0) a (x .1))
+unpack-shown-out = shown-out number _ (one, 0 ∷ []) two1 one1 (2 ∷ []) (1 ∷ []) (sums .unpacked .0) (sums .unpacked .1) byte-two-one
 
-pub pack-shown-out : ShownOut {I = Single} {S = List ℕ} (λ i. packMeans (i .0) (i .1) (i .2))
-pack-shown-out = shown-out _ (one, 2 ∷ [], zero1) (one, 1 ∷ [], zero1) two1 one1 (sums .packed .0) (sums .packed .1) two-one
+pub tally-shown-out : ShownOut {X = ℕ} {I = List ℕ} {S = List ℕ × Bool} number tallyMeans
+tally-shown-out = shown-out number _ 1 one1 zero1 (0 ∷ 1 ∷ 0 ∷ [], false) (1 ∷ 0 ∷ 0 ∷ [], true) (sums .tallied .0) (sums .tallied .1) tallies-differ
 
-pub unpack-shown-out : ShownOut {I = Single} {S = List ℕ} (λ i. unpackMeans (i .0) (i .1) (i .2))
-unpack-shown-out = shown-out _ (one, two1, 0 ∷ []) (one, one1, 0 ∷ []) (2 ∷ []) (1 ∷ []) (sums .unpacked .0) (sums .unpacked .1) byte-two-one
-
-pub tally-shown-out : ShownOut {I = ℕ × List ℕ} {S = List ℕ × Bool} (λ i. tallyMeans (i .0) (i .1))
-tally-shown-out = shown-out _ (1, one1) (1, zero1) (0 ∷ 1 ∷ 0 ∷ [], false) (1 ∷ 0 ∷ 0 ∷ [], true) (sums .tallied .0) (sums .tallied .1) tallies-differ
-
--- the check answers a number alone
-pub check-shown-out : (f : Size → List ℕ → Answer) → ((s : Size) (a : List ℕ) → number (f s a) ≡ checkMeans s a)
-    → (((s : Size) (a : List ℕ) → number (f s a) ≡ 0 → ⊥) → ⊥) × (((s : Size) (a b : List ℕ) → f s a ≡ f s b) → ⊥)
-check-shown-out f meets = (
-  λ refuses. refuses one one1 (meets one one1 ∙ sums .checked .0),
-  λ fixed. let z : _≡_ {A = ℕ} 0 5 = sym (sums .checked .0) ∙ sym (meets one one1) ∙ ap number (fixed one one1 stray1) ∙ meets one stray1 ∙ sums .checked .1 in omega arith,
-)
+pub check-shown-out : AnswerShownOut {X = Size} {I = List ℕ} number checkMeans
+check-shown-out = answer-shown-out number checkMeans one one1 stray1 5 (sums .checked .0) (sums .checked .1) (λ e. omega arith)

@@ -1,6 +1,7 @@
 -- Shown out by demand 3: a turn that moves the record and writes nothing, one that multiplies all at once and then only counts, and totals
--- that do not come from A. One cell by one cell at width 1 is enough: its list is a table step, and a plus where the cell holds 1. Each known
--- sum is computed from the requests' own statements. Assumes nothing.
+-- that do not come from A; and, of the requests for a job, an implementation that refuses everything and one with a fixed answer. One cell by
+-- one cell at width 1 is enough: its list is a table step, and a plus where the cell holds 1. Each known sum is computed from the requests'
+-- own statements. Assumes nothing.
 use mathlib.Core.Path.{_≡_, refl, sym, ap, _∙_}
 use mathlib.Core.Bool.{Bool, true, false, not}
 use mathlib.Core.List.{List, [], _∷_}
@@ -18,6 +19,7 @@ use Rattle.requests.specs.declared.Size.{Size}
 use Rattle.requests.specs.declared.Answer.{Answer}
 use Rattle.requests.specs.Answers.{number, first, left, answered}
 use Rattle.requests.specs.Sizes.{over, unfit, faults}
+use Rattle.requests.proofs.ShownOut.{ShownOut, shown-out}
 use Rattle.steps.specs.Matrix.{sum}
 use Rattle.steps.specs.Step.{lowestBit, cleared, put, apply, run, opening}
 use Rattle.steps.specs.StepList.{bitsOf, unless0, many, each, tableSteps, rowSteps, blockSteps, blocks, blockWidth, steps}
@@ -28,10 +30,15 @@ use Rattle.matrix.specs.declared.job.Job.{Job}
 use Rattle.matrix.specs.Job.{meant, misfit}
 use Rattle.matrix.specs.Quote.{quoteTests, quoteMeans}
 use Rattle.matrix.specs.Total.{factorTests, totalTests, totalMeans}
+use Rattle.matrix.specs.Opening.{fittingTests, openingTests, openingMeans}
+use Rattle.matrix.specs.Product.{endOf, productMeans}
 use Rattle.matrix.specs.Turn.{foundTests, turnTests, madeOf, leftOf, turnMeans}
 
 abbrev one : Size
 one = record { rows = 1; columns = 1 }
+
+abbrev none : Size
+none = record { rows = 0; columns = 0 }
 
 -- one cell that holds 0, and one that holds 1
 abbrev zero1 : List ℕ
@@ -49,6 +56,10 @@ madeTable = 0 ∷ 0 ∷ 1 ∷ 0 ∷ []
 
 abbrev job : ℕ → Job
 job d = record { m = 1; l = 1; n = 1; width = 1; done = d }
+
+-- .. and one without any cell, at a width
+abbrev emptyJob : ℕ → Job
+emptyJob w = record { m = 0; l = 0; n = 0; width = w; done = 0 }
 
 -- what a turn is handed: record, A, B, table, product, budget; and what it leaves
 abbrev Handed : Type 0
@@ -70,12 +81,18 @@ pub record Sums : Type 0 where
   pub first-step : means (opened 1) ≡ (0, (job 1, (1, (false, (madeTable, zero1)))))
   pub second-step : means goneOn ≡ (0, (job 2, (1, (true, (madeTable, one1)))))
   pub both-steps : means (opened 2) ≡ (0, (job 2, (2, (true, (madeTable, one1)))))
+  pub zero-cell : means (job 0, zero1, one1, newTable, zero1, 2) ≡ (0, (job 1, (1, (true, (madeTable, zero1)))))
   pub totals : (totalMeans one 1 zero1 ≡ (0, 1)) × (totalMeans one 1 one1 ≡ (0, 2))
-  pub quoted : quoteMeans one 1 ≡ (0, 2)
+  pub quoted : (quoteMeans one 1 ≡ (0, 2)) × (quoteMeans none 1 ≡ (0, 0))
+  pub opened-at : (openingMeans none none 1 [] [] [] [] ≡ (0, (emptyJob 1, ([], [])))) × (openingMeans none none 2 [] [] [] [] ≡ (0, (emptyJob 2, ([], []))))
+  pub multiplied : (productMeans one one 1 one1 one1 newTable zero1 ≡ (0, (madeTable, one1))) × (productMeans one one 1 zero1 one1 newTable zero1 ≡ (0, (madeTable, zero1)))
 
 pub sums : Sums
-unfolding turnMeans turnTests foundTests madeOf leftOf totalMeans totalTests factorTests quoteMeans quoteTests quote total sum meant misfit due found steps blocks blockWidth blockSteps rowSteps tableSteps each many unless0 bitsOf lowestBit cleared put apply run opening answered first left over unfit faults stray padded any unit sign cell bitAt bit planes wide words encode joined plane tab wordOf unitOf signOf add3 sub3 is trailingZeros
-sums = record { first-step = refl; second-step = refl; both-steps = refl; totals = (refl, refl); quoted = refl }
+unfolding turnMeans turnTests foundTests madeOf leftOf openingMeans openingTests fittingTests productMeans endOf totalMeans totalTests factorTests quoteMeans quoteTests quote total sum meant misfit due found steps blocks blockWidth blockSteps rowSteps tableSteps each many unless0 bitsOf lowestBit cleared put apply run opening answered first left over unfit faults stray padded any unit sign cell bitAt bit planes wide words encode joined plane tab wordOf unitOf signOf add3 sub3 is trailingZeros
+sums = record { first-step = refl; second-step = refl; both-steps = refl; zero-cell = refl; totals = (refl, refl); quoted = (refl, refl); opened-at = (refl, refl); multiplied = (refl, refl) }
+
+one-zero : one1 ≡ zero1 → ⊥
+one-zero e = let z : _≡_ {A = ℕ} 1 0 = ap (λ (l : List ℕ). getD l 0 0) e in omega arith
 
 -- ---- turns
 
@@ -93,9 +110,6 @@ module _ (f : Handed → Answer × Left) (meets : (h : Handed) → (number (f h 
 
   table-is : (h : Handed) (o : Left) → means h ≡ (0, o) → tableLeft h ≡ o .1 .1 .1 .0
   table-is h o says = ap (λ (v : ℕ × Left). v .1 .1 .1 .1 .0) (meets h ∙ says)
-
-  one-zero : one1 ≡ zero1 → ⊥
-  one-zero e = let z : _≡_ {A = ℕ} 1 0 = ap (λ (l : List ℕ). getD l 0 0) e in omega arith
 
   -- it does not only move the record: it writes the table, and it writes the product
   pub writes-table : ((h : Handed) → tableLeft h ≡ h .3) → ⊥
@@ -126,5 +140,30 @@ module _ (f : Size → ℕ → List ℕ → Answer × ℕ) (meets : (x : Size) (
 
   pub not-the-quote : ((x : Size) (w : ℕ) (a : List ℕ) → f x w a .1 ≡ quoteMeans x w .1) → ⊥
   not-the-quote invents =
-      let z : _≡_ {A = ℕ} 1 2 = sym (steps-is zero1 1 (sums .totals .0)) ∙ invents one 1 zero1 ∙ ap (λ (v : ℕ × ℕ). v .1) (sums .quoted) in
+      let z : _≡_ {A = ℕ} 1 2 = sym (steps-is zero1 1 (sums .totals .0)) ∙ invents one 1 zero1 ∙ ap (λ (v : ℕ × ℕ). v .1) (sums .quoted .0) in
       omega arith
+
+-- ---- refusing everything, and a fixed answer
+
+pub quote-shown-out : ShownOut {X = ℕ} {I = Size} {S = ℕ} number (λ w x. quoteMeans x w)
+quote-shown-out = shown-out number _ 1 one none 2 0 (sums .quoted .0) (sums .quoted .1) (λ e. omega arith)
+
+pub total-shown-out : ShownOut {X = Size × ℕ} {I = List ℕ} {S = ℕ} number (λ x a. totalMeans (x .0) (x .1) a)
+total-shown-out = shown-out number _ (one, 1) zero1 one1 1 2 (sums .totals .0) (sums .totals .1) (λ e. omega arith)
+
+pub opening-shown-out : ShownOut {X = Size × Size × List ℕ × List ℕ × List ℕ × List ℕ} {I = ℕ} {S = Job × (List ℕ × List ℕ)} number
+    (λ x w. openingMeans (x .0) (x .1) w (x .2) (x .3) (x .4) (x .5))
+opening-shown-out =
+    shown-out number _ (none, none, [], [], [], []) 1 2 (emptyJob 1, ([], [])) (emptyJob 2, ([], [])) (sums .opened-at .0) (sums .opened-at .1)
+    (λ e. let z : _≡_ {A = ℕ} 1 2 = ap (λ (o : Job × (List ℕ × List ℕ)). o .0 .width) e in omega arith)
+
+pub turn-shown-out : ShownOut {X = Job × List ℕ × List ℕ × List ℕ × ℕ} {I = List ℕ} {S = Left} number (λ x a. turnMeans (x .0) a (x .1) (x .2) (x .3) (x .4))
+turn-shown-out =
+    shown-out number _ (job 0, one1, newTable, zero1, 2) one1 zero1 (job 2, (2, (true, (madeTable, one1)))) (job 1, (1, (true, (madeTable, zero1)))) (sums .both-steps) (sums .zero-cell)
+    (λ e. one-zero (ap (λ (o : Left). o .1 .1 .1 .1) e))
+
+pub product-shown-out : ShownOut {X = Size × Size × ℕ × List ℕ × List ℕ × List ℕ} {I = List ℕ} {S = List ℕ × List ℕ} number
+    (λ x a. productMeans (x .0) (x .1) (x .2) a (x .3) (x .4) (x .5))
+product-shown-out =
+    shown-out number _ (one, one, 1, one1, newTable, zero1) one1 zero1 (madeTable, one1) (madeTable, zero1) (sums .multiplied .0) (sums .multiplied .1)
+    (λ e. one-zero (ap (λ (o : List ℕ × List ℕ). o .1) e))

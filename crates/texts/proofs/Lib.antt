@@ -9,3 +9,4 @@ pub mod MultiplyLaws
 pub mod Outcomes
 pub mod Limits
 pub mod Sample
+pub mod Impostors
