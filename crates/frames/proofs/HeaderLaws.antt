@@ -4,7 +4,7 @@ use mathlib.Core.Bool.{Bool}
 use mathlib.Core.List.{List}
 use Prim.Native.Nat.{ℕ}
 use Rattle.requests.specs.Sizes.{over}
-use Rattle.frames.specs.Hex.{valueOf}
+use Rattle.frames.specs.Line.{valueOf}
 use Rattle.frames.specs.Header.{sizeOf}
 
 pub header-over : (line : List ℕ) (r c : ℕ) {b : Bool} → r ≡ valueOf line 0 4 → c ≡ valueOf line 4 4 → over (record { rows = r; columns = c }) ≡ b → over (sizeOf line) ≡ b

@@ -3,7 +3,7 @@ pub mod HexLaws
 pub mod DigitLaws
 pub mod LineLaws
 pub mod HeaderLaws
-pub mod RowLaws
+pub mod RowLineLaws
 pub mod RoundTrips
 pub mod Outcomes
 pub mod Examples

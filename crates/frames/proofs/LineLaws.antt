@@ -9,7 +9,8 @@ use lib.Seq.{getD-set-same, getD-set-other, getD-at, ext-getD}
 use Rattle.buffers.specs.Buffer.{tab}
 use Rattle.buffers.proofs.BufferLaws.{length-tab, getD-tab}
 use Rattle.requests.specs.declared.Size.{Size}
-use Rattle.frames.specs.Hex.{byteOf, nibble, hexOf}
+use Rattle.frames.specs.Digit.{byteOf, nibble}
+use Rattle.frames.specs.Line.{hexOf}
 use Rattle.frames.specs.Header.{headerOf}
 
 -- the first n elements are those of f

@@ -16,14 +16,15 @@ use Rattle.requests.specs.Answers.{first}
 use Rattle.requests.specs.Sizes.{over}
 use Rattle.requests.proofs.AnswerLaws.{finished, first-none, later, none-first}
 use Rattle.requests.proofs.SizeLaws.{over-rows, over-columns}
-use Rattle.frames.specs.Hex.{byteOf, nibble, hexOf, valueOf, unframed}
+use Rattle.frames.specs.Digit.{byteOf, nibble}
+use Rattle.frames.specs.Line.{hexOf, valueOf, unframed}
 use Rattle.frames.specs.Header.{headerOf, sizeOf, readHeaderTests, readHeaderMeans, writeHeaderTests, writeHeaderMeans}
 use Rattle.frames.specs.RowLine.{lineLong, lineOf, wordsOf, readRowTests, readRowMeans, writeRowTests, writeRowMeans}
 use Rattle.frames.proofs.HexLaws.{Framed, framed}
 use Rattle.frames.proofs.DigitLaws.{Says, value-said, byte-value, nibble-lt, framed-line}
 use Rattle.frames.proofs.LineLaws.{Filled, hex-length, hex-filled, header-eight}
 use Rattle.frames.proofs.HeaderLaws.{header-over, header-read}
-use Rattle.frames.proofs.RowLaws.{byteAt, row-filled}
+use Rattle.frames.proofs.RowLineLaws.{byteAt, row-filled}
 
 -- ---- a line of n bytes and byte 10
 

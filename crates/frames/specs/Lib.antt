@@ -1,3 +1,4 @@
-pub mod Hex
+pub mod Digit
+pub mod Line
 pub mod Header
 pub mod RowLine

@@ -2,4 +2,4 @@
 pub mod digit;
 pub mod header;
 pub mod line;
-pub mod row;
+pub mod row_line;

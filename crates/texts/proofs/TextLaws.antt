@@ -16,7 +16,7 @@ use Rattle.buffers.proofs.SizeLaws.{planes-le}
 use Rattle.buffers.proofs.BufferLaws.{length-tab, length-joined}
 use Rattle.requests.specs.Answers.{first, left, answered}
 use Rattle.requests.proofs.AnswerLaws.{here, later, refused, finished, refusal-keeps, done-makes, append-given, append-none, first-none}
-use Rattle.frames.specs.Hex.{hexOf, unframed}
+use Rattle.frames.specs.Line.{hexOf, unframed}
 use Rattle.frames.proofs.HexLaws.{framed}
 use Rattle.frames.specs.Header.{readHeaderTests, readHeaderMeans}
 use Rattle.frames.specs.RowLine.{lineLong, lineOf, wordsOf, readRowTests, readRowMeans, writeRowTests, writeRowMeans}

@@ -10,7 +10,7 @@ use Rattle.requests.specs.Answers.{Tests, first}
 use Rattle.requests.specs.Sizes.{faults}
 use Rattle.steps.specs.Matrix.{schoolbook}
 use Rattle.matrix.specs.Job.{meant, productSize, totalOf, unmatched}
-use Rattle.frames.specs.Hex.{hexOf}
+use Rattle.frames.specs.Line.{hexOf}
 use Rattle.frames.specs.Header.{headerOf}
 use Rattle.texts.specs.MatrixText.{linesOf, sizeIn, wordsIn, restOf, matrixTests}
 

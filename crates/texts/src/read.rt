@@ -5,14 +5,14 @@ ghost use Prim.Native.Nat.{ℕ, _+_, _*_, _^_, _≤_, _<_};
 ghost use lib.ListN.{length, take, drop};
 ghost use Rattle.buffers.specs.Buffer.{wide, words};
 ghost use Rattle.requests.specs.Answers.{number, first};
-ghost use Rattle.frames.specs.Hex.{unframed};
+ghost use Rattle.frames.specs.Line.{unframed};
 ghost use Rattle.frames.specs.RowLine.{lineLong, wordsOf};
 ghost use Rattle.texts.specs.MatrixText.{misread, wordsRead, above, sizeMeans, matrixTests};
 ghost use Rattle.texts.specs.Found.{Found};
 use buffers::planes::planes;
 use frames::header::Header;
 use frames::header::read_header;
-use frames::row::read_row;
+use frames::row_line::read_row;
 use requests::Answer;
 use requests::number;
 

@@ -11,7 +11,7 @@ ghost use Rattle.texts.specs.Multiply.{refusal, framesOf, placed};
 use buffers::planes::planes;
 use frames::header::write_header;
 use frames::line::put;
-use frames::row::write_row;
+use frames::row_line::write_row;
 use requests::Size;
 
 // The word refused, a space, the number as two digits, byte 10.

@@ -1,5 +1,5 @@
 use borrow.Author.Tests.{lt-ltb, le-ltb}
-use Rattle.frames.specs.Hex.{byteOf}
+use Rattle.frames.specs.Digit.{byteOf}
 use borrow.Author.Needs.{needs}
 use Rattle.frames.proofs.digit.byte_of.Statement.{statement}
 use Rattle.frames.proofs.digit.byte_of.Tie as tie

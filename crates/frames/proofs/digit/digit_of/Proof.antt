@@ -1,5 +1,5 @@
 use borrow.Author.Tests.{lt-ltb, le-ltb}
-use Rattle.frames.specs.Hex.{digitOf}
+use Rattle.frames.specs.Digit.{digitOf}
 use borrow.Author.Needs.{needs}
 use Rattle.frames.proofs.digit.digit_of.Statement.{statement}
 use Rattle.frames.proofs.digit.digit_of.Tie as tie

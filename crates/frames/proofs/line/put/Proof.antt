@@ -1,7 +1,8 @@
 use mathlib.Core.Path.{_≡_, sym, ap, _∙_}
 use Prim.Native.Nat.{ℕ, suc, _-_, _+_, _≤_}
 use lib.ListN.{length, length-set}
-use Rattle.frames.specs.Hex.{byteOf, nibble, hexOf}
+use Rattle.frames.specs.Digit.{byteOf, nibble}
+use Rattle.frames.specs.Line.{hexOf}
 use Rattle.frames.proofs.LineLaws.{Filled, filled-none, filled-next, filled-end, hex-length, hex-filled}
 use native.Mathlib.Omega.{arith}
 use Rattle.frames.proofs.line.put.Statement.{statement}

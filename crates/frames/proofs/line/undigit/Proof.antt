@@ -1,7 +1,7 @@
 use mathlib.Core.Path.{_≡_, sym}
 use mathlib.Core.Bool.{false}
 use Prim.Native.Nat.{_-_, _≤_}
-use Rattle.frames.specs.Hex.{undigit}
+use Rattle.frames.specs.Line.{undigit}
 use Rattle.frames.proofs.HexLaws.{undigit-none, undigit-next, undigit-stop}
 use borrow.Author.Needs.{needs}
 use native.Mathlib.Omega.{arith}

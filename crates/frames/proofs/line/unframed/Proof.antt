@@ -1,6 +1,6 @@
 use mathlib.Core.Path.{sym, _∙_}
 use borrow.Author.Tests.{eq-eqb, ne-eqb}
-use Rattle.frames.specs.Hex.{unframed}
+use Rattle.frames.specs.Line.{unframed}
 use borrow.Author.Needs.{needs}
 use Rattle.frames.proofs.line.unframed.Statement.{statement}
 use Rattle.frames.proofs.line.unframed.Tie as tie

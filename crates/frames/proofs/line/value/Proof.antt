@@ -1,6 +1,6 @@
 use mathlib.Core.Path.{_≡_, ap, _∙_}
 use Prim.Native.Nat.{_-_, _≤_}
-use Rattle.frames.specs.Hex.{valueOf}
+use Rattle.frames.specs.Line.{valueOf}
 use Rattle.frames.proofs.HexLaws.{value-none, value-next, value-room}
 use borrow.Author.Needs.{needs}
 use native.Mathlib.Omega.{arith}

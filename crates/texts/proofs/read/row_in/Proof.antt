@@ -4,7 +4,7 @@ use Prim.Native.Nat.{_+_, _-_, _*_}
 use lib.ListN.{take, drop, length-take, length-drop}
 use Rattle.buffers.specs.Buffer.{wide}
 use Rattle.frames.specs.RowLine.{lineLong}
-use Rattle.frames.proofs.RowLaws.{wide-le}
+use Rattle.frames.proofs.RowLineLaws.{wide-le}
 use Rattle.texts.proofs.TextLaws.{short-frame, row-read}
 use native.Mathlib.Omega.{arith}
 use borrow.Author.Needs.{needs}

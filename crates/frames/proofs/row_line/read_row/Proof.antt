@@ -3,11 +3,11 @@ use Prim.Native.Nat.{ℕ}
 use lib.ListN.{length}
 use Rattle.requests.proofs.AnswerLaws.{refused, finished}
 use Rattle.frames.specs.RowLine.{wordsOf, readRowMeans}
-use Rattle.frames.proofs.RowLaws.{readable-row}
+use Rattle.frames.proofs.RowLineLaws.{readable-row}
 use borrow.Author.Needs.{needs}
 use native.Mathlib.Omega.{arith}
-use Rattle.frames.proofs.row.read_row.Statement.{statement}
-use Rattle.frames.proofs.row.read_row.Tie as tie
+use Rattle.frames.proofs.row_line.read_row.Statement.{statement}
+use Rattle.frames.proofs.row_line.read_row.Tie as tie
 
 readable-requires : tie.Need-readable-requires
 readable-requires c κs = search needs

@@ -1,12 +1,12 @@
 use mathlib.Core.Path.{_≡_, refl}
 use Prim.Native.Nat.{_+_, _-_, _*_, _≤_}
 use lib.ListN.{length, length-set}
-use Rattle.frames.specs.Hex.{valueOf}
+use Rattle.frames.specs.Line.{valueOf}
 use Rattle.frames.proofs.LineLaws.{Filled, filled-none, filled-next}
-use Rattle.frames.proofs.RowLaws.{row-read}
+use Rattle.frames.proofs.RowLineLaws.{row-read}
 use native.Mathlib.Omega.{arith}
-use Rattle.frames.proofs.row.read_words.Statement.{statement}
-use Rattle.frames.proofs.row.read_words.Tie as tie
+use Rattle.frames.proofs.row_line.read_words.Statement.{statement}
+use Rattle.frames.proofs.row_line.read_words.Tie as tie
 
 abbrev Inv-loop : tie.InvT-loop
 Inv-loop line words₀ p₀ words p = (p ≤ length words₀) × (length words ≡ length words₀) × Filled (λ i. valueOf line (i * 16) 16) p words

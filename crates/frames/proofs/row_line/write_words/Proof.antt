@@ -1,12 +1,12 @@
 use mathlib.Core.Path.{_≡_, sym, _∙_}
 use Prim.Native.Nat.{_+_, _-_, _*_, _≤_}
 use lib.ListN.{length, length-set}
-use Rattle.frames.specs.Hex.{nibble}
+use Rattle.frames.specs.Digit.{nibble}
 use Rattle.frames.proofs.LineLaws.{Filled, filled-none, filled-next}
-use Rattle.frames.proofs.RowLaws.{byteAt, row-written}
+use Rattle.frames.proofs.RowLineLaws.{byteAt, row-written}
 use native.Mathlib.Omega.{arith}
-use Rattle.frames.proofs.row.write_words.Statement.{statement}
-use Rattle.frames.proofs.row.write_words.Tie as tie
+use Rattle.frames.proofs.row_line.write_words.Statement.{statement}
+use Rattle.frames.proofs.row_line.write_words.Tie as tie
 
 abbrev Inv-loop : tie.InvT-loop
 Inv-loop words line₀ n k₀ line k = (k ≤ n) × (length line ≡ length words * 16 + 1) × Filled (byteAt words) k line

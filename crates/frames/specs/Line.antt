@@ -1,23 +1,12 @@
 -- Numbers as hexadecimal digits, most significant first, and lines of them. Assumes nothing.
-use mathlib.Core.Bool.{Bool, cond, not, _||_}
+use mathlib.Core.Bool.{Bool, not, _||_}
 use mathlib.Core.List.{List}
-use Prim.Native.Nat.{ℕ, zero, suc, _+_, _-_, _*_, _/_, _%_, _^_}
+use Prim.Native.Nat.{ℕ, zero, suc, _+_, _-_, _*_}
 use lib.Dec.{ltb, eqb}
 use lib.ListN.{length, getD}
 use Rattle.cells.specs.Any.{any}
 use Rattle.buffers.specs.Buffer.{tab}
-
--- the value of a byte: 48 to 57 are 0 to 9, 97 to 102 are 10 to 15, and any other has none, said by 16
-unfoldable pub digitOf : ℕ → ℕ
-digitOf b = cond (ltb b 48) 16 (cond (ltb b 58) (b - 48) (cond (ltb b 97) 16 (cond (ltb b 103) (b - 87) 16)))
-
--- the byte of a value below 16
-unfoldable pub byteOf : ℕ → ℕ
-byteOf d = cond (ltb d 10) (48 + d) (87 + d)
-
--- digit t of v, the lowest first
-unfoldable pub nibble : ℕ → ℕ → ℕ
-nibble v t = v / 2 ^ (4 * t) % 16
+use Rattle.frames.specs.Digit.{digitOf, byteOf, nibble}
 
 -- the n digits of v, the highest first
 unfoldable pub hexOf : ℕ → ℕ → List ℕ

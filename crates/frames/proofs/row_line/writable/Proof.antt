@@ -5,8 +5,8 @@ use Rattle.buffers.proofs.SizeLaws.{planes-le}
 use Rattle.frames.specs.RowLine.{lineLong, writeRowTests}
 use borrow.Author.Needs.{needs}
 use native.Mathlib.Omega.{arith}
-use Rattle.frames.proofs.row.writable.Statement.{statement}
-use Rattle.frames.proofs.row.writable.Tie as tie
+use Rattle.frames.proofs.row_line.writable.Statement.{statement}
+use Rattle.frames.proofs.row_line.writable.Tie as tie
 
 returns : tie.Need-returns
 unfolding writeRowTests first

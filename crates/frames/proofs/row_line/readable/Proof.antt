@@ -3,12 +3,12 @@ use borrow.Author.Tests.{eq-eqb, ne-eqb, lt-ltb, le-ltb}
 use Rattle.requests.specs.Answers.{first}
 use Rattle.buffers.specs.Buffer.{planes, wide}
 use Rattle.buffers.proofs.SizeLaws.{planes-le}
-use Rattle.frames.specs.Hex.{unframed}
+use Rattle.frames.specs.Line.{unframed}
 use Rattle.frames.specs.RowLine.{readRowTests}
 use borrow.Author.Needs.{needs}
 use native.Mathlib.Omega.{arith}
-use Rattle.frames.proofs.row.readable.Statement.{statement}
-use Rattle.frames.proofs.row.readable.Tie as tie
+use Rattle.frames.proofs.row_line.readable.Statement.{statement}
+use Rattle.frames.proofs.row_line.readable.Tie as tie
 
 returns : tie.Need-returns
 unfolding readRowTests first

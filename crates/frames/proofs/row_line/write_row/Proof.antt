@@ -3,11 +3,11 @@ use Prim.Native.Nat.{ℕ}
 use lib.ListN.{length}
 use Rattle.requests.proofs.AnswerLaws.{refused, finished}
 use Rattle.frames.specs.RowLine.{lineOf, writeRowMeans}
-use Rattle.frames.proofs.RowLaws.{writable-row, wide-le}
+use Rattle.frames.proofs.RowLineLaws.{writable-row, wide-le}
 use borrow.Author.Needs.{needs}
 use native.Mathlib.Omega.{arith}
-use Rattle.frames.proofs.row.write_row.Statement.{statement}
-use Rattle.frames.proofs.row.write_row.Tie as tie
+use Rattle.frames.proofs.row_line.write_row.Statement.{statement}
+use Rattle.frames.proofs.row_line.write_row.Tie as tie
 
 writable-requires : tie.Need-writable-requires
 writable-requires c κs = search needs
