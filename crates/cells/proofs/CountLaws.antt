@@ -40,11 +40,6 @@ unfolding sumTo
 sumTo-zero zero = refl
 sumTo-zero (suc n) = omega (arith, sumTo-zero n)
 
-pub bits-le : (w k : ℕ) → sumTo (bit w) k ≤ k
-unfolding sumTo
-bits-le w zero = omega arith
-bits-le w (suc k) = omega (arith, bits-le w k, bit-lt w k)
-
 -- the count of the set bits is the sum of the bits
 pub ones-sum : (k w : ℕ) → w < 2 ^ k → ones w ≡ sumTo (bit w) k
 unfolding sumTo ones

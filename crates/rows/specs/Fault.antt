@@ -6,8 +6,6 @@ use Prim.Native.Nat.{ℕ, _+_, _-_, _*_}
 use lib.Dec.{ltb}
 use Rattle.cells.specs.Any.{any}
 use Rattle.buffers.specs.Buffer.{bitAt}
-use Rattle.rows.specs.declared.fault.Finding.{Finding}
-use Rattle.rows.specs.declared.fault.Finding.the-variants.{Clean, Stray, Padding}
 
 -- a real column holds sign without unit
 unfoldable pub strayRow : List ℕ → ℕ → ℕ → ℕ → Bool
@@ -21,12 +19,3 @@ paddedRow ws x q c = any (64 * q - c) (λ j. ltb 0 (bitAt ws x (c + j) + bitAt w
 pub record Found (w : ℕ) (b : Bool) : Type 0 where
   pub none : w ≡ 0 → b ≡ false
   pub some : (w ≡ 0 → ⊥) → b ≡ true
-
--- the first fault: any stray sign comes before any padding
-abbrev firstOf : Bool → Bool → Finding
-firstOf true p = Stray
-firstOf false true = Padding
-firstOf false false = Clean
-
-unfoldable pub faultRow : List ℕ → ℕ → ℕ → ℕ → Finding
-faultRow ws x q c = firstOf (strayRow ws x q c) (paddedRow ws x q c)

@@ -1,7 +1,6 @@
 -- The numbers P and N: a bit for each 1, or each 2, of a block of a row. Assumes nothing.
 use Prim.Native.Nat.{ℕ, zero, suc, _+_, _-_, _*_, _/_, _%_, _^_, _≤_, _<_}
-use mathlib.Core.Path.{_≡_, refl, ap}
-use mathlib.Core.Logic.{_≢_}
+use mathlib.Core.Path.{_≡_, refl}
 use native.Mathlib.Omega.{arith}
 use native.Mathlib.Nat.{add-zero, div-div-eq-div-mul, pow-succ', div-one}
 use lib.Dec.{lit<, lit≤}
@@ -18,20 +17,6 @@ is-le zero (suc d) = lit≤ tt
 is-le (suc a) zero = lit≤ tt
 is-le (suc a) (suc d) = is-le a d
 
-pub is-same : (a d : ℕ) → a ≡ d → is a d ≡ 1
-unfolding is
-is-same zero zero e = refl
-is-same zero (suc d) e = absurd (omega arith)
-is-same (suc a) zero e = absurd (omega arith)
-is-same (suc a) (suc d) e = is-same a d (omega arith)
-
-pub is-other : (a d : ℕ) → a ≢ d → is a d ≡ 0
-unfolding is
-is-other zero zero n = absurd (n refl)
-is-other zero (suc d) n = refl
-is-other (suc a) zero n = refl
-is-other (suc a) (suc d) n = is-other a d (λ e. n (ap suc e))
-
 pub bits-lt : (d : ℕ) (r : Row) (w s : ℕ) → bitsOf d r s w < 2 ^ w
 unfolding bitsOf
 bits-lt d r zero s = lit< tt
@@ -43,17 +28,7 @@ unfolding bitsOf
 bits-same d r r′ zero s h = refl
 bits-same d r r′ (suc w) s h = rw (h s (omega arith) (omega arith), bits-same d r r′ w (suc s) (λ j a b. h j (omega arith) (omega arith)))
 
--- bit t is that of column s + t
-pub bits-at : (d : ℕ) (r : Row) (w s t : ℕ) → t < w → bitsOf d r s w / 2 ^ t % 2 ≡ is (r (s + t)) d
-unfolding bitsOf
-bits-at d r zero s t h = absurd (omega arith)
-bits-at d r (suc w) s zero h = rw (add-zero s, div-one) (omega (arith, is-le (r s) d))
-bits-at d r (suc w) s (suc t) h =
-    let e₁ : (is (r s) d + 2 * bitsOf d r (suc s) w) / 2 ≡ bitsOf d r (suc s) w = omega (arith, is-le (r s) d) in
-    let e₂ : s + suc t ≡ suc s + t = omega arith in
-    rw (pow-succ', ← (div-div-eq-div-mul (is (r s) d + 2 * bitsOf d r (suc s) w) 2 (2 ^ t)), e₁, e₂) (bits-at d r w (suc s) t (omega arith))
-
--- and no other number below 2 ^ w has these bits
+-- bit t is that of column s + t, and no other number below 2 ^ w has these bits
 pub bits-only : (d : ℕ) (r : Row) (w s p : ℕ) → p < 2 ^ w → ((t : ℕ) → t < w → p / 2 ^ t % 2 ≡ is (r (s + t)) d) → p ≡ bitsOf d r s w
 unfolding bitsOf
 bits-only d r zero s p lt h = omega arith
