@@ -20,6 +20,7 @@ use Rattle.buffers.specs.Buffer.{planes, bitAt}
 use Rattle.buffers.proofs.SizeLaws.{planes-room, planes-tight, bitAt-word}
 use borrow.Author.Tests.{ltb-false}
 use Rattle.rows.specs.Row.{LegalRow}
+use Rattle.rows.specs.Tally.{column}
 use Rattle.rows.specs.Fault.{strayRow, paddedRow, Found}
 
 -- ---- words in which faults are gathered
@@ -147,7 +148,7 @@ padded-full ws x q c e z =
 
 pub padded-last : (ws : List ℕ) (x q c u s : ℕ) → q ≡ planes c → (c % 64 ≡ 0 → ⊥) → u ≡ getD ws (x + (q - 1)) 0 → s ≡ getD ws (x + (q - 1) + q) 0
     → any (64 - c % 64) (λ t. ltb 0 (digit u s (c % 64 + t))) ≡ paddedRow ws x q c
-unfolding paddedRow bitAt digit
+unfolding paddedRow column bitAt digit
 padded-last ws x q c u s e ne eu es =
     let n : 64 * q - c ≡ 64 - c % 64 = omega (arith, planes-room c, planes-tight c) in
     rw n

@@ -2,18 +2,18 @@
 use mathlib.Core.Path.{_≡_}
 use mathlib.Core.Bool.{Bool, true, false}
 use mathlib.Core.List.{List}
-use Prim.Native.Nat.{ℕ, _+_, _-_, _*_}
-use lib.Dec.{ltb}
-use Rattle.cells.specs.Any.{any}
+use Prim.Native.Nat.{ℕ, _+_, _*_}
+use Rattle.cells.specs.Fault.{strayIn, paddedIn}
 use Rattle.buffers.specs.Buffer.{bitAt}
+use Rattle.rows.specs.Tally.{column}
 
 -- a real column holds sign without unit
 unfoldable pub strayRow : List ℕ → ℕ → ℕ → ℕ → Bool
-strayRow ws x q c = any c (λ j. ltb (bitAt ws x j) (bitAt ws (x + q) j))
+strayRow ws x q c = strayIn (bitAt ws x) (bitAt ws (x + q)) c
 
 -- a padding bit is set, in either plane
 unfoldable pub paddedRow : List ℕ → ℕ → ℕ → ℕ → Bool
-paddedRow ws x q c = any (64 * q - c) (λ j. ltb 0 (bitAt ws x (c + j) + bitAt ws (x + q) (c + j)))
+paddedRow ws x q c = paddedIn (column ws x q) c (64 * q)
 
 -- the word w, in which faults are gathered, is 0 exactly where there are none
 pub record Found (w : ℕ) (b : Bool) : Type 0 where
