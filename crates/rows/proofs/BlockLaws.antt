@@ -8,15 +8,14 @@ use lib.ListN.{getD}
 use lib.Bits.{bitAnd, bitOr, bitXor, differ, mask-lt, xor-lt}
 use Rattle.cells.specs.Bit.{bit, wordOf}
 use Rattle.cells.specs.Counts.{is}
-use Rattle.cells.specs.Pair.{LegalPair}
+use Rattle.cells.specs.Pair.{digit, LegalPair}
 use Rattle.cells.proofs.BitLaws.{bit-lt, bit-and, bit-or, bit-xor}
 use Rattle.cells.proofs.WordLaws.{bit-shr, bit-mod, bit-high, bit-shl-low, bit-shl-high, wordOf-lt, wordOf-bit, wordOf-unique}
 use Rattle.cells.proofs.MaskLaws.{low-in}
 use Rattle.cells.proofs.PairLaws.{cases}
 use Rattle.buffers.specs.Buffer.{bitAt}
 use Rattle.buffers.proofs.SizeLaws.{bitAt-lt}
-use Rattle.rows.specs.Row.{LegalRow}
-use Rattle.rows.specs.Tally.{column}
+use Rattle.rows.specs.Row.{digitAt, column, LegalRow}
 use Rattle.rows.specs.Block.{digitBits}
 
 -- the places of a mask of w bits keep their bits
@@ -108,7 +107,7 @@ module _ (ws : List ℕ) (x q s w u t : ℕ) (L : LegalRow ws x q q) (room : s +
   sign-small = rw et (wordOf-lt (λ i. bitAt ws (x + q) (s + i)) w (λ i. bitAt-lt ws (x + q) (s + i)))
 
   pub ones-are : bitXor u t ≡ digitBits 1 ws x q s w
-  unfolding digitBits column
+  unfolding digitBits column digitAt digit bitAt
   ones-are =
       wordOf-unique (λ i. is (column ws x q (s + i)) 1) w (bitXor u t) (λ i. is-lt (column ws x q (s + i)) 1) (xor-lt w u t unit-small sign-small)
       (λ i l.
@@ -116,7 +115,7 @@ module _ (ws : List ℕ) (x q s w u t : ℕ) (L : LegalRow ws x q q) (room : s +
       ∙ one-is (bitAt ws x (s + i)) (bitAt ws (x + q) (s + i)) (bitAt-lt ws x (s + i)) (column-legal ws x q (s + i) L (omega arith)))
 
   pub twos-are : t ≡ digitBits 2 ws x q s w
-  unfolding digitBits column
+  unfolding digitBits column digitAt digit bitAt
   twos-are =
       wordOf-unique (λ i. is (column ws x q (s + i)) 2) w t (λ i. is-lt (column ws x q (s + i)) 2) sign-small
       (λ i l.

@@ -5,7 +5,7 @@ use mathlib.Core.List.{List}
 use Prim.Native.Nat.{ℕ, _+_, _*_}
 use Rattle.cells.specs.Fault.{strayIn, paddedIn}
 use Rattle.buffers.specs.Buffer.{bitAt}
-use Rattle.rows.specs.Tally.{column}
+use Rattle.rows.specs.Row.{column}
 
 -- a real column holds sign without unit
 unfoldable pub strayRow : List ℕ → ℕ → ℕ → ℕ → Bool

@@ -10,7 +10,7 @@ use Rattle.cells.specs.Counts.{is}
 use Rattle.cells.specs.Digit.{Matrix}
 use Rattle.cells.proofs.WordLaws.{wordOf-lt, wordOf-bit}
 use Rattle.buffers.specs.Buffer.{planes, cell}
-use Rattle.rows.specs.Tally.{column}
+use Rattle.rows.specs.Row.{column}
 use Rattle.rows.specs.Block.{digitBits}
 use Rattle.rows.proofs.BlockLaws.{is-lt}
 use Rattle.rows.proofs.MatrixLaws.{column-cell}
