@@ -50,6 +50,13 @@ ones-sum (suc k) w h =
     ∙ ap (λ (n : ℕ). n + sumTo (λ t. bit w (suc t)) k) (sym (bit-zero w))
     ∙ sym (sumTo-front (bit w) k)
 
+pub is-le : (a b : ℕ) → is a b ≤ 1
+unfolding is
+is-le zero zero = omega arith
+is-le zero (suc b) = omega arith
+is-le (suc a) zero = omega arith
+is-le (suc a) (suc b) = is-le a b
+
 -- ---- the three words whose set bits are the places of a digit under a mask
 
 pub zero-bit : (u s m t : ℕ) → LegalPair u s → bit (bitAnd m (bitXor m u)) t ≡ bit m t * is (digit u s t) 0
@@ -89,13 +96,6 @@ module _ (u s m : ℕ) (h : LegalPair u s) (hu : u < 2 ^ 64) (hs : s < 2 ^ 64) (
   twos-count = counted 2 _ (and-lt 64 _ _ hm hs) (λ t. two-bit u s m t h)
 
 -- no digit stands in more than the 64 places
-is-le : (a b : ℕ) → is a b ≤ 1
-unfolding is
-is-le zero zero = omega arith
-is-le zero (suc b) = omega arith
-is-le (suc a) zero = omega arith
-is-le (suc a) (suc b) = is-le a b
-
 pub count-le : (d u s m : ℕ) → count d u s m ≤ 64
 unfolding count sumTo
 count-le d u s m = below 64

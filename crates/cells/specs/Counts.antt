@@ -1,6 +1,6 @@
--- Sums, and how many places hold a digit. Assumes nothing.
+-- Sums, which places hold a digit, and how many do. Assumes nothing.
 use Prim.Native.Nat.{ℕ, zero, suc, _+_, _*_}
-use Rattle.cells.specs.Bit.{bit}
+use Rattle.cells.specs.Bit.{bit, wordOf}
 use Rattle.cells.specs.Pair.{digit}
 
 -- f 0 + .. + f (n - 1)
@@ -14,6 +14,10 @@ is zero zero = 1
 is zero (suc n) = 0
 is (suc m) zero = 0
 is (suc m) (suc n) = is m n
+
+-- the number with a bit for each d in the columns s, .. s + w - 1 of a row of digits: bit 0 is column s
+unfoldable pub bitsOf : ℕ → (ℕ → ℕ) → ℕ → ℕ → ℕ
+bitsOf d row s w = wordOf (λ i. is (row (s + i)) d) w
 
 -- how many of the 64 places that the mask m has hold the digit d
 unfoldable pub count : ℕ → ℕ → ℕ → ℕ → ℕ

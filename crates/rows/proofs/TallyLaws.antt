@@ -8,7 +8,7 @@ use Rattle.cells.specs.Bit.{bit}
 use Rattle.cells.specs.Counts.{sumTo, is, count}
 use Rattle.cells.specs.Pair.{digit}
 use Rattle.cells.proofs.MaskLaws.{low-in, low-out}
-use Rattle.cells.proofs.CountLaws.{sumTo-none, sumTo-below, sumTo-split, sumTo-zero}
+use Rattle.cells.proofs.CountLaws.{sumTo-none, sumTo-below, sumTo-split, sumTo-zero, is-le}
 use Rattle.buffers.specs.Buffer.{planes}
 use Rattle.buffers.proofs.SizeLaws.{planes-room, planes-tight}
 use Rattle.rows.specs.Row.{digitAt, column}
@@ -64,13 +64,6 @@ module _ (ws : List ℕ) (x q c : ℕ) (row : q ≡ planes c) where
       rw a at e
 
 -- no more columns than there are hold a digit
-is-le : (a b : ℕ) → is a b ≤ 1
-unfolding is
-is-le zero zero = omega arith
-is-le zero (suc b) = omega arith
-is-le (suc a) zero = omega arith
-is-le (suc a) (suc b) = is-le a b
-
 pub columns-le : (d : ℕ) (row : ℕ → ℕ) (c : ℕ) → columnsWith d row c ≤ c
 unfolding columnsWith sumTo
 columns-le d row zero = omega arith

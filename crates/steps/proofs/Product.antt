@@ -7,9 +7,10 @@ use native.Mathlib.Omega.{arith}
 use native.Mathlib.Nat.{le-refl, le-of-suc-le-suc, eq-or-lt-of-le}
 use lib.Pow.{pow-pos}
 use Rattle.cells.specs.Digit.{Matrix, add3, sub3}
+use Rattle.cells.specs.Counts.{bitsOf}
 use Rattle.steps.specs.Matrix.{Digits, sum, schoolbook}
 use Rattle.steps.specs.Step.{tableStep, plus, minus, State, cleared, apply, run, opening}
-use Rattle.steps.specs.StepList.{bitsOf, unless0, tableSteps, rowSteps, blockSteps, blocks, blockWidth, blockAt, steps}
+use Rattle.steps.specs.StepList.{unless0, tableSteps, rowSteps, blockSteps, blocks, blockWidth, blockAt, steps}
 use Rattle.steps.proofs.Sums.{sum-more, congruent}
 use Rattle.steps.proofs.LowestBit.{cleared-lt}
 use Rattle.steps.proofs.BlockBits.{bits-lt, picked, picked-zero, picked-lowest, ones-and-twos}

@@ -4,7 +4,7 @@ use mathlib.Core.List.{List, [], _∷_}
 use Prim.Native.Nat.{ℕ}
 use Rattle.cells.specs.Any.{any}
 use Rattle.cells.specs.Bit.{bit, wordOf}
-use Rattle.cells.specs.Counts.{is}
+use Rattle.cells.specs.Counts.{is, bitsOf}
 use Rattle.cells.specs.Digit.{unitOf, signOf}
 use Rattle.buffers.specs.Buffer.{planes, wide, words, bitAt, unit, sign, cell, tab, joined, plane, encode}
 use Rattle.buffers.specs.Fault.{stray, padded}
@@ -12,7 +12,7 @@ use Rattle.requests.specs.Answers.{first}
 use Rattle.requests.specs.Sizes.{over, faults}
 use Rattle.steps.specs.Matrix.{sum, schoolbook}
 use Rattle.steps.specs.Count.{total}
-use Rattle.steps.specs.StepList.{bitsOf, unless0, many, each, tableSteps, rowSteps, blockSteps, blocks, blockWidth, steps}
+use Rattle.steps.specs.StepList.{unless0, many, each, tableSteps, rowSteps, blockSteps, blocks, blockWidth, steps}
 use Rattle.frames.specs.Hex.{pick, digitOf, byteOf, nibble, hexOf, valueOf, undigit, unframed}
 use Rattle.frames.specs.Header.{headerOf, sizeOf, readHeaderTests}
 use Rattle.frames.specs.RowLine.{lineOf, wordsOf}
