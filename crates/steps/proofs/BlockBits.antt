@@ -3,9 +3,9 @@ use Prim.Native.Nat.{ℕ, zero, suc, _+_, _-_, _*_, _/_, _%_, _^_, _≤_, _<_}
 use mathlib.Core.Path.{_≡_, refl, sym, ap, ap₂, _∙_}
 use native.Mathlib.Omega.{arith}
 use native.Mathlib.Nat.{add-zero}
-use Rattle.steps.specs.Matrix.{Row, sum}
+use Rattle.steps.specs.Matrix.{Row}
 use Rattle.cells.specs.Bit.{wordOf}
-use Rattle.cells.specs.Counts.{is, bitsOf}
+use Rattle.cells.specs.Counts.{sum, is, bitsOf}
 use Rattle.cells.proofs.WordLaws.{wordOf-lt}
 use Rattle.cells.proofs.CountLaws.{is-le}
 use Rattle.steps.specs.Step.{lowestBit, cleared}

@@ -8,12 +8,11 @@ use lib.Dec.{lit≤}
 use lib.Pow.{pow-mono}
 use lib.ListN.{length, length-append}
 use Rattle.cells.specs.Digit.{Matrix}
-use Rattle.steps.specs.Matrix.{sum}
 use Rattle.steps.specs.Step.{Step, tableStep, plus, minus}
-use Rattle.cells.specs.Counts.{is}
+use Rattle.cells.specs.Counts.{sum, is}
 use Rattle.steps.specs.StepList.{unless0, each, tableSteps, rowSteps, blockSteps, blocks, blockWidth, blockAt, steps}
 use Rattle.steps.specs.Count.{quote, total, rowCount, blockCount, countAt}
-use Rattle.steps.proofs.Sums.{sum-le, sum-same, sum-ext}
+use Rattle.cells.proofs.SumLaws.{sum-le, sum-same, sum-ext}
 use Rattle.steps.proofs.BlockBits.{bits-none, bits-first}
 use Rattle.steps.proofs.Loops.{length-each, no-blocks, blocks-within, width-le}
 

@@ -2,10 +2,10 @@
 use Rattle.cells.specs.Digit.{add3, sub3}
 use mathlib.Core.Path.{refl}
 use lib.Count.{trailingZeros}
-use Rattle.steps.specs.Matrix.{sum, schoolbook}
+use Rattle.steps.specs.Matrix.{schoolbook}
 use Rattle.steps.specs.Step.{lowestBit, cleared, put, apply, run, opening}
 use Rattle.cells.specs.Bit.{wordOf}
-use Rattle.cells.specs.Counts.{is, bitsOf}
+use Rattle.cells.specs.Counts.{sum, is, bitsOf}
 use Rattle.steps.specs.StepList.{unless0, many, each, tableSteps, rowSteps, blockSteps, blocks, blockWidth, steps}
 use Rattle.steps.specs.Count.{quote, total}
 use Rattle.steps.specs.Turn.{after}

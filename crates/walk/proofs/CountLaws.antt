@@ -5,16 +5,15 @@ use Prim.Native.Nat.{ℕ, _+_, _-_, _*_, _%_, _^_, _≤_, _<_, min}
 use native.Mathlib.Numerals.{add-one}
 use native.Mathlib.Omega.{arith}
 use lib.Pow.{pow-mono}
-use Rattle.cells.specs.Counts.{bitsOf}
+use Rattle.cells.specs.Counts.{sum, bitsOf}
 use Rattle.cells.specs.Digit.{Matrix}
 use Rattle.buffers.specs.Buffer.{planes, cell}
 use Rattle.rows.specs.Row.{column}
 use Rattle.rows.proofs.MatrixLaws.{column-cell}
-use Rattle.steps.specs.Matrix.{sum}
 use Rattle.steps.specs.StepList.{P, N, blocks, blockWidth}
 use Rattle.steps.specs.Count.{total, rowCount, blockCount, countAt}
 use Rattle.steps.proofs.Counts.{row-le, total-counts, total-small}
-use Rattle.steps.proofs.Sums.{sum-none, sum-last, sum-le, sum-mono, sum-same}
+use Rattle.cells.proofs.SumLaws.{sum-none, sum-last, sum-le, sum-mono, sum-same}
 
 -- the bits that are read of a row of a matrix are P and N
 pub bits-are : (d l i q s w : ℕ) (a : List ℕ) → q ≡ planes l → bitsOf d (column a (i * (2 * q)) q) s w ≡ bitsOf d (cell l a i) s w
