@@ -2,7 +2,7 @@
 use mathlib.Core.Path.{_≡_, refl, sym, ap, ap₂, subst, _∙_}
 use mathlib.Core.Bool.{Bool, true, false, not}
 use mathlib.Core.List.{List, [], _∷_}
-use Prim.Native.Nat.{ℕ, _+_, _-_, _*_, _/_, _%_, _^_, _≤_, _<_, min}
+use Prim.Native.Nat.{ℕ, _+_, _-_, _*_, _/_, _%_, _^_, _<_, min}
 use native.Mathlib.Nat.{add-mul, mul-add, one-mul}
 use native.Mathlib.Decide.{decLt}
 use native.Mathlib.Omega.{arith}
@@ -94,13 +94,6 @@ take-first b d h k = bits (λ b. differ d (min (differ b d) 1) ≡ b) (bits (λ 
 module _ (h m : ℕ) (M : Mask h m) where
   first-room : (t : ℕ) → t < 64 → half h t ≡ 0 → t + h < 64
   first-room t l z = let r : (t + (1 - 0) * h) / 64 ≡ 0 = rw z at (M .room t l) in omega arith
-
-  second-room : (t : ℕ) → t < 64 → half h t ≡ 1 → h ≤ t
-  second-room t l o = go (decLt t h)
-    where
-      go : Dec (t < h) → h ≤ t
-      go (yes a) = absurd (omega (arith, M .high t l, bit-shl-low m h t a))
-      go (no a) = omega arith
 
   across-lt : (i t : ℕ) → i < 64 → t < 64 → across h i t < 64
   across-lt i t hi ht =

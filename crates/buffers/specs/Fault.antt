@@ -1,15 +1,15 @@
 -- The two faults that a buffer of the right length can have, as tests. Assumes nothing.
 use mathlib.Core.Bool.{Bool}
 use mathlib.Core.List.{List}
-use Prim.Native.Nat.{ℕ, _+_, _-_, _*_}
-use lib.Dec.{ltb}
+use Prim.Native.Nat.{ℕ, _*_}
 use Rattle.cells.specs.Any.{any}
-use Rattle.buffers.specs.Buffer.{planes, bitAt, unit, sign, cell}
+use Rattle.cells.specs.Fault.{strayIn, paddedIn}
+use Rattle.buffers.specs.Buffer.{planes, unit, sign, cell}
 
--- a real column holds sign without unit
+-- in some row a real column holds sign without unit
 unfoldable pub stray : ℕ → ℕ → List ℕ → Bool
-stray r c ws = any r (λ i. any c (λ j. ltb (unit c ws i j) (sign c ws i j)))
+stray r c ws = any r (λ i. strayIn (unit c ws i) (sign c ws i) c)
 
--- a padding bit is set
+-- in some row a padding bit is set
 unfoldable pub padded : ℕ → ℕ → List ℕ → Bool
-padded r c ws = any r (λ i. any (64 * planes c - c) (λ j. ltb 0 (cell c ws i (c + j))))
+padded r c ws = any r (λ i. paddedIn (cell c ws i) c (64 * planes c))

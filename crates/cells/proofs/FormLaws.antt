@@ -125,12 +125,9 @@ law f h g ps ok l = record {
     at : (t : ℕ) → T (lawful f h (slice ps t) && exact f h g (slice ps t))
     at t = all-at ps t (λ qs. lawful f h qs && exact f h g qs) l ok
 
--- a rule of one, two or three digits as one of a list of them
+-- a rule of one or two digits as one of a list of them
 abbrev pub on1 : (ℕ → ℕ) → List ℕ → ℕ
 on1 g ds = g (getD ds 0 0)
 
 abbrev pub on2 : (ℕ → ℕ → ℕ) → List ℕ → ℕ
 on2 g ds = g (getD ds 0 0) (getD ds 1 0)
-
-abbrev pub on3 : (ℕ → ℕ → ℕ → ℕ) → List ℕ → ℕ
-on3 g ds = g (getD ds 0 0) (getD ds 1 0) (getD ds 2 0)

@@ -8,5 +8,6 @@ pub mod EncodeLaws
 pub mod ScalingLaws
 pub mod AnyLaws
 pub mod FaultLaws
+pub mod SumLaws
 pub mod CountLaws
 pub mod LowestLaws

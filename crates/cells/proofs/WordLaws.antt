@@ -1,11 +1,11 @@
--- A number by its bits: two numbers of k bits with the same bits are one. Shifts, remainders and complements, bit by bit. Assumes nothing.
+-- A number by its bits: two numbers of k bits with the same bits are one. Shifts and remainders, bit by bit. Assumes nothing.
 use mathlib.Core.Path.{_≡_, sym, ap, _∙_}
 use Prim.Native.Nat.{ℕ, zero, suc, _+_, _-_, _*_, _/_, _%_, _^_, _≤_, _<_, suc-le-suc}
 use native.Mathlib.Nat.{div-eq-of-lt}
 use native.Mathlib.Numerals.{one-add, add-one}
 use native.Mathlib.Omega.{arith}
 use lib.Arith.{digits-div, digits-mod}
-use lib.Pow.{shr-shr, shl-shr, pow-mono, pow-pos, mod-pow-add}
+use lib.Pow.{shr-shr, shl-shr, pow-mono, mod-pow-add}
 use lib.Bits.{shifted-half, shifted-even}
 use Rattle.cells.specs.Bit.{bit, wordOf}
 
@@ -55,15 +55,6 @@ pub wordOf-unique : (f : ℕ → ℕ) (n w : ℕ) → ((i : ℕ) → f i < 2) �
 wordOf-unique f n w h l e = ext n w (wordOf f n) l (wordOf-lt f n h) (λ t k. e t k ∙ sym (wordOf-bit f n t h k))
 
 -- ---- the other operations of a machine word, bit by bit
-
--- `!w` at k bits
-pub bit-not : (k w t : ℕ) → w < 2 ^ k → t < k → bit ((2 ^ k - 1) - w) t ≡ 1 - bit w t
-bit-not zero w t h l = absurd (omega arith)
-bit-not (suc k) w zero h l = let p : 0 < 2 ^ k = pow-pos k in omega (arith, bit-zero w, bit-zero ((2 ^ suc k - 1) - w))
-bit-not (suc k) w (suc t) h l =
-    let p : 0 < 2 ^ k = pow-pos k in
-    let half : ((2 ^ suc k - 1) - w) / 2 ≡ (2 ^ k - 1) - w / 2 = omega arith in
-    bit-suc _ t ∙ ap (λ (x : ℕ). bit x t) half ∙ bit-not k (w / 2) t (omega arith) (omega arith) ∙ rw (bit-suc w t)
 
 -- `w >> k`
 pub bit-shr : (w k t : ℕ) → bit (w / 2 ^ k) t ≡ bit w (k + t)

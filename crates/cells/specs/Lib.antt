@@ -3,5 +3,6 @@ pub mod Digit
 pub mod Pair
 pub mod Scaling
 pub mod Any
+pub mod Fault
 pub mod Counts
 pub mod Lowest

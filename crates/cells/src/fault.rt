@@ -1,17 +1,16 @@
 // The faults of a pair of words of which the lowest n places are real columns.
 ghost use mathlib.Core.Path.{_≡_};
-ghost use Prim.Native.Nat.{ℕ, _+_, _-_, _<_, _≤_};
-ghost use lib.Dec.{ltb};
-ghost use Rattle.cells.specs.Any.{any};
+ghost use Prim.Native.Nat.{_<_, _≤_};
 ghost use Rattle.cells.specs.Bit.{bit};
 ghost use Rattle.cells.specs.Pair.{at};
+ghost use Rattle.cells.specs.Fault.{strayIn, paddedIn};
 use crate::Cells;
 use crate::mask::low;
 
 // A real place holds sign without unit.
 pub fn stray(x: Cells, n: u64) -> bool
     requires { ⌜ (0 < n) × (n ≤ 64) ⌝ }
-    ensures { λ r. ⌜ r ≡ any n (λ t. ltb (bit (x .unit) t) (bit (x .sign) t)) ⌝ }
+    ensures { λ r. ⌜ r ≡ strayIn (bit (x .unit)) (bit (x .sign)) n ⌝ }
 {
     let bad = x.sign & (x.sign ^ x.unit);
     if bad & low(n) == 0 {
@@ -23,7 +22,7 @@ pub fn stray(x: Cells, n: u64) -> bool
 // A place from n on, padding, holds a bit.
 pub fn padded(x: Cells, n: u64) -> bool
     requires { ⌜ n < 64 ⌝ }
-    ensures { λ r. ⌜ r ≡ any (64 - n) (λ t. ltb 0 (at x (n + t))) ⌝ }
+    ensures { λ r. ⌜ r ≡ paddedIn (at x) n 64 ⌝ }
 {
     if (x.unit | x.sign) >> n == 0 {
         return false;

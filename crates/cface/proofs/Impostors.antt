@@ -8,7 +8,7 @@ use lib.Count.{trailingZeros}
 use lib.ListN.{getD}
 use Rattle.cells.specs.Any.{any}
 use Rattle.cells.specs.Bit.{bit, wordOf}
-use Rattle.cells.specs.Counts.{is}
+use Rattle.cells.specs.Counts.{sum, is, bitsOf}
 use Rattle.cells.specs.Digit.{add3, sub3, neg3, unitOf, signOf}
 use Rattle.buffers.specs.Buffer.{planes, wide, words, bitAt, unit, sign, cell, tab, joined, plane, encode}
 use Rattle.buffers.specs.Fault.{stray, padded}
@@ -17,9 +17,9 @@ use Rattle.requests.specs.Answers.{first, left, answered}
 use Rattle.requests.specs.Sizes.{over, faults}
 use Rattle.requests.specs.Pair.{unequal}
 use Rattle.requests.proofs.ShownOut.{ShownOut, shown-out, AnswerShownOut, answer-shown-out}
-use Rattle.steps.specs.Matrix.{sum, schoolbook}
+use Rattle.steps.specs.Matrix.{schoolbook}
 use Rattle.steps.specs.Step.{lowestBit, cleared, put, apply, run, opening}
-use Rattle.steps.specs.StepList.{bitsOf, unless0, many, each, tableSteps, rowSteps, blockSteps, blocks, blockWidth, steps}
+use Rattle.steps.specs.StepList.{unless0, many, each, tableSteps, rowSteps, blockSteps, blocks, blockWidth, steps}
 use Rattle.steps.specs.Count.{total}
 use Rattle.walk.specs.Due.{due}
 use Rattle.walk.specs.Ran.{found}

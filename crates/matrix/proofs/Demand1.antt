@@ -6,10 +6,10 @@ use mathlib.Core.List.{List, [], _∷_}
 use Prim.Native.Nat.{ℕ, _+_, _^_}
 use lib.Dec.{eqb}
 use lib.ListN.{length}
-use Rattle.buffers.specs.Buffer.{encode}
+use Rattle.buffers.specs.Buffer.{cell, encode}
 use Rattle.requests.specs.declared.Size.{Size}
 use Rattle.requests.specs.declared.Answer.{Answer}
-use Rattle.requests.specs.Answers.{number, first}
+use Rattle.requests.specs.Answers.{number}
 use Rattle.requests.specs.Sizes.{faults}
 use Rattle.requests.specs.Single.{singleTests}
 use Rattle.requests.specs.Pair.{pairTests}
@@ -22,7 +22,8 @@ use Rattle.matrix.specs.Difference.{differenceOf, differenceMeans}
 use Rattle.matrix.specs.Negation.{negationOf, negationMeans}
 use Rattle.matrix.specs.Scaling.{scalingOf, scalingTests, scalingMeans}
 use Rattle.matrix.specs.Transpose.{transposedSize, transposeOf, transposeMeans}
-use Rattle.matrix.specs.Tally.{count, tallyMeans}
+use Rattle.rows.specs.Tally.{columnsWith, tallyRow}
+use Rattle.matrix.specs.Tally.{tallyMeans}
 use Rattle.matrix.specs.declared.job.Job.{Job}
 use Rattle.matrix.specs.Job.{meant, totalOf}
 use Rattle.matrix.specs.Quote.{quoteTests, quoteMeans}
@@ -72,7 +73,7 @@ unpack-exact s a out r o says = exact (unpackTests s a (length out)) out (unpack
 
 pub tally-exact : (c : ℕ) (a : List ℕ) (r : Tallied) → (number (r .answer), (r .counts, r .balanced)) ≡ tallyMeans c a
     → Exact {S = List ℕ × Bool} (checkTests (record { rows = 1; columns = c }) a) (0 ∷ 0 ∷ 0 ∷ [], false)
-    (count 0 c a ∷ count 1 c a ∷ count 2 c a ∷ [], eqb (count 1 c a) (count 2 c a)) (number (r .answer)) (r .counts, r .balanced)
+    (tallyRow (cell c a 0) c, eqb (columnsWith 1 (cell c a 0) c) (columnsWith 2 (cell c a 0) c)) (number (r .answer)) (r .counts, r .balanced)
 unfolding tallyMeans checkTests faults
 tally-exact c a r says = exact (checkTests (record { rows = 1; columns = c }) a) _ _ (number (r .answer)) (r .counts, r .balanced) tt says
 

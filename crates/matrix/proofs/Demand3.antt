@@ -19,7 +19,8 @@ use Rattle.requests.specs.Answers.{number, first, answered}
 use Rattle.requests.specs.Sizes.{over, faults}
 use Rattle.requests.proofs.SizeLaws.{not-over, not-unfit}
 use Rattle.requests.proofs.AnswerLaws.{none-first, append-none, append-front, later, finished, done-makes}
-use Rattle.steps.specs.Matrix.{sum, schoolbook}
+use Rattle.cells.specs.Counts.{sum}
+use Rattle.steps.specs.Matrix.{schoolbook}
 use Rattle.steps.specs.Step.{State, run, opening}
 use Rattle.steps.specs.StepList.{steps}
 use Rattle.steps.specs.Count.{quote, total}

@@ -9,7 +9,7 @@ use native.Mathlib.Omega.{arith}
 use lib.ListN.{getD}
 use Rattle.cells.specs.Any.{any}
 use Rattle.cells.specs.Bit.{bit, wordOf}
-use Rattle.cells.specs.Counts.{sumTo, is}
+use Rattle.cells.specs.Counts.{sum, is}
 use Rattle.cells.specs.Digit.{add3, sub3, neg3, mul3, unitOf, signOf}
 use Rattle.buffers.specs.Buffer.{planes, wide, words, bitAt, unit, sign, cell, tab, joined, plane, encode}
 use Rattle.buffers.specs.Fault.{stray, padded}
@@ -28,7 +28,8 @@ use Rattle.matrix.specs.Difference.{differenceOf, differenceMeans}
 use Rattle.matrix.specs.Negation.{negationOf, negationMeans}
 use Rattle.matrix.specs.Scaling.{scalingOf, scalingTests, scalingMeans}
 use Rattle.matrix.specs.Transpose.{transposeOf, transposeMeans}
-use Rattle.matrix.specs.Tally.{count, tallyMeans}
+use Rattle.rows.specs.Tally.{columnsWith, tallyRow}
+use Rattle.matrix.specs.Tally.{tallyMeans}
 
 abbrev one : Size
 one = record { rows = 1; columns = 1 }
@@ -61,7 +62,7 @@ pub record Sums : Type 0 where
   pub tallied : (tallyMeans 1 one1 ≡ (0, (0 ∷ 1 ∷ 0 ∷ [], false))) × (tallyMeans 1 zero1 ≡ (0, (1 ∷ 0 ∷ 0 ∷ [], true)))
 
 pub sums : Sums
-unfolding checkMeans checkTests sumMeans sumOf differenceMeans differenceOf negationMeans negationOf scalingMeans scalingTests scalingOf transposeMeans transposeOf packMeans packTests packOf unpackMeans unpackTests unpackOf tallyMeans count answered first left pairTests singleTests over unequal unfits unfit unlike faults stray padded any unit sign cell bitAt bit planes wide words encode joined plane tab wordOf unitOf signOf add3 sub3 neg3 mul3 byteAt bytes sumTo is
+unfolding checkMeans checkTests sumMeans sumOf differenceMeans differenceOf negationMeans negationOf scalingMeans scalingTests scalingOf transposeMeans transposeOf packMeans packTests packOf unpackMeans unpackTests unpackOf tallyMeans tallyRow columnsWith answered first left pairTests singleTests over unequal unfits unfit unlike faults stray padded any unit sign cell bitAt bit planes wide words encode joined plane tab wordOf unitOf signOf add3 sub3 neg3 mul3 byteAt bytes sum is
 sums = record {
   checked = (refl, refl, refl);
   added = (refl, refl, refl);

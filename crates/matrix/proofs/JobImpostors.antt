@@ -11,7 +11,7 @@ use lib.Count.{trailingZeros}
 use lib.ListN.{getD}
 use Rattle.cells.specs.Any.{any}
 use Rattle.cells.specs.Bit.{bit, wordOf}
-use Rattle.cells.specs.Counts.{is}
+use Rattle.cells.specs.Counts.{sum, is, bitsOf}
 use Rattle.cells.specs.Digit.{add3, sub3, unitOf, signOf}
 use Rattle.buffers.specs.Buffer.{planes, wide, words, bitAt, unit, sign, cell, tab, joined, plane, encode}
 use Rattle.buffers.specs.Fault.{stray, padded}
@@ -20,9 +20,8 @@ use Rattle.requests.specs.declared.Answer.{Answer}
 use Rattle.requests.specs.Answers.{number, first, left, answered}
 use Rattle.requests.specs.Sizes.{over, unfit, faults}
 use Rattle.requests.proofs.ShownOut.{ShownOut, shown-out}
-use Rattle.steps.specs.Matrix.{sum}
 use Rattle.steps.specs.Step.{lowestBit, cleared, put, apply, run, opening}
-use Rattle.steps.specs.StepList.{bitsOf, unless0, many, each, tableSteps, rowSteps, blockSteps, blocks, blockWidth, steps}
+use Rattle.steps.specs.StepList.{unless0, many, each, tableSteps, rowSteps, blockSteps, blocks, blockWidth, steps}
 use Rattle.steps.specs.Count.{quote, total}
 use Rattle.walk.specs.Due.{due}
 use Rattle.walk.specs.Ran.{found}

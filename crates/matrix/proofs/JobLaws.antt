@@ -20,13 +20,13 @@ use Rattle.requests.specs.Sizes.{over, unfit, faults}
 use Rattle.requests.proofs.SizeLaws.{over-rows, over-columns, unfit-long}
 use Rattle.requests.proofs.AnswerLaws.{positive, None, first-none, append-given, append-none, later}
 use Rattle.rows.specs.Row.{Written}
-use Rattle.steps.specs.Matrix.{sum}
+use Rattle.cells.specs.Counts.{sum}
 use Rattle.steps.specs.Step.{Step, State, run, opening}
 use Rattle.steps.specs.StepList.{blocks, blockWidth, steps}
 use Rattle.steps.specs.Count.{quote}
 use Rattle.steps.proofs.Fits.{AllFit}
 use Rattle.steps.proofs.Counts.{quote-le, total-small}
-use Rattle.steps.proofs.Sums.{sum-none, sum-last, sum-mono}
+use Rattle.cells.proofs.SumLaws.{sum-none, sum-last, sum-mono}
 use Rattle.steps.proofs.Same.{SameState, run-same}
 use Rattle.walk.specs.Due.{due}
 use Rattle.walk.specs.Ran.{found, Ran}

@@ -10,7 +10,7 @@ use lib.Seq.{ext-getD}
 use Rattle.cells.specs.Pair.{digit}
 use Rattle.cells.proofs.AnyLaws.{or-left, or-right}
 use Rattle.cells.specs.Digit.{Matrix}
-use Rattle.buffers.specs.Buffer.{planes, wide, cell, unit, sign, Legal, tab, joined}
+use Rattle.buffers.specs.Buffer.{planes, cell, Legal, tab, joined}
 use Rattle.buffers.proofs.BufferLaws.{legal-tests, length-tab, getD-tab, length-joined, getD-joined, by-row}
 use Rattle.buffers.proofs.SizeLaws.{planes-room, planes-tight}
 use Rattle.requests.specs.declared.Size.{Size}
@@ -18,10 +18,10 @@ use Rattle.requests.specs.Answers.{first}
 use Rattle.requests.specs.Sizes.{unfit, faults}
 use Rattle.requests.proofs.SizeLaws.{over-rows, over-columns, unfit-long}
 use Rattle.requests.proofs.AnswerLaws.{None, first-none}
-use Rattle.rows.specs.Row.{Written}
-use Rattle.rows.specs.Tally.{column}
+use Rattle.rows.specs.Row.{column, Written}
 use Rattle.rows.proofs.RowLaws.{written-none, written-more}
 use Rattle.rows.proofs.TallyLaws.{column-word}
+use Rattle.rows.proofs.MatrixLaws.{column-cell}
 use Rattle.matrix.specs.Unpacked.{bytes, unlike}
 use Rattle.matrix.specs.Unpack.{unpackTests}
 use Rattle.matrix.proofs.PackLaws.{cells-in, unlike-long}
@@ -77,14 +77,13 @@ pub bytes-none : (M : Matrix) (c : ℕ) (new : List ℕ) → BytesMade M c 0 (le
 bytes-none M c new = record { len = refl; made = λ i j h l. absurd (omega arith) }
 
 pub bytes-more : (c q i n : ℕ) (a mid new : List ℕ) → q ≡ planes c → BytesMade (cell c a) c i n mid → Written (column a (i * (2 * q)) q) (i * c) c mid new → BytesMade (cell c a) c (i + 1) n new
-unfolding cell unit sign wide column
 bytes-more c q i n a mid new e B W = record { len = W .long ∙ B .len; made = λ k j h l. go k j (decLt k i) h l }
   where
     go : (k j : ℕ) → Dec (k < i) → k < i + 1 → j < c → getD new (k * c + j) 0 ≡ cell c a k j
     go k j (yes h) m l = W .before (k * c + j) (omega (arith, cells-in i c k h)) ∙ B .made k j h l
     go k j (no h) m l =
         let d : k ≡ i = omega arith in
-        rw d (rw e at (W .written j l))
+        rw d (W .written j l ∙ column-cell c i q j a e)
 
 pub bytes-all : (M : Matrix) (r c : ℕ) (new : List ℕ) → BytesMade M c r (r * c) new → new ≡ bytes r c M
 unfolding bytes

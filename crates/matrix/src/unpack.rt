@@ -1,14 +1,13 @@
 // A matrix as one byte a cell.
 ghost use mathlib.Core.Path.{_≡_};
 ghost use mathlib.Core.Bool.{false, _||_};
-ghost use Prim.Native.Nat.{ℕ, _+_, _*_, _≤_, _<_};
+ghost use Prim.Native.Nat.{_+_, _*_, _≤_, _<_};
 ghost use lib.ListN.{length};
 ghost use Rattle.cells.specs.Pair.{digit};
 ghost use Rattle.buffers.specs.Buffer.{planes, Legal};
 ghost use Rattle.requests.specs.Answers.{number, first};
 ghost use Rattle.requests.specs.Sizes.{over, unfit};
-ghost use Rattle.rows.specs.Row.{Written};
-ghost use Rattle.rows.specs.Tally.{column};
+ghost use Rattle.rows.specs.Row.{column, Written};
 ghost use Rattle.matrix.specs.Unpacked.{unlike};
 ghost use Rattle.matrix.specs.Unpack.{unpackOf, unpackTests, unpackMeans};
 use super::pack::unlike;

@@ -7,10 +7,12 @@ use native.Mathlib.Numerals.{add-one}
 use native.Mathlib.Omega.{arith}
 use lib.Bits.{bitOr}
 use Rattle.cells.specs.Any.{any}
+use Rattle.cells.specs.Pair.{digit}
 use Rattle.cells.proofs.AnyLaws.{any-more, or-yes}
-use Rattle.buffers.specs.Buffer.{planes, wide, unit, sign, cell}
+use Rattle.buffers.specs.Buffer.{planes, wide, bitAt, unit, sign, cell}
 use Rattle.buffers.specs.Fault.{stray, padded}
 use Rattle.buffers.proofs.SizeLaws.{planes-room}
+use Rattle.rows.specs.Row.{digitAt, column}
 use Rattle.rows.specs.Fault.{strayRow, paddedRow, Found}
 use Rattle.rows.proofs.FaultLaws.{or-none, stray-fewer}
 
@@ -49,9 +51,9 @@ module _ (ws : List ℕ) (c q : ℕ) (e : q ≡ planes c) where
   padded-begin = refl
 
   pub padded-next : (i : ℕ) → padded i c ws ≡ false → paddedRow ws (i * (2 * q)) q c ≡ false → padded (i + 1) c ws ≡ false
-  unfolding padded paddedRow cell unit sign wide
+  unfolding padded paddedRow column digitAt digit cell unit sign bitAt wide
   padded-next i h k = next _ i h (rw e at k)
 
   pub padded-stop : (i r : ℕ) → i < r → paddedRow ws (i * (2 * q)) q c ≡ true → true ≡ padded r c ws
-  unfolding padded paddedRow cell unit sign wide
+  unfolding padded paddedRow column digitAt digit cell unit sign bitAt wide
   padded-stop i r l k = stop _ i r l (rw e at k)

@@ -1,23 +1,22 @@
 -- The bits of a block, taken from one word or from two. Assumes nothing.
 use mathlib.Core.Path.{_≡_, refl, sym, ap, ap₂, _∙_}
 use mathlib.Core.List.{List}
-use Prim.Native.Nat.{ℕ, zero, suc, _+_, _-_, _*_, _/_, _%_, _^_, _≤_, _<_, max}
+use Prim.Native.Nat.{ℕ, _+_, _-_, _*_, _/_, _%_, _^_, _≤_, _<_, max}
 use native.Mathlib.Decide.{decLt}
 use native.Mathlib.Omega.{arith}
 use lib.ListN.{getD}
 use lib.Bits.{bitAnd, bitOr, bitXor, differ, mask-lt, xor-lt}
 use Rattle.cells.specs.Bit.{bit, wordOf}
-use Rattle.cells.specs.Counts.{is}
-use Rattle.cells.specs.Pair.{LegalPair}
+use Rattle.cells.specs.Counts.{is, bitsOf}
+use Rattle.cells.specs.Pair.{digit, LegalPair}
 use Rattle.cells.proofs.BitLaws.{bit-lt, bit-and, bit-or, bit-xor}
 use Rattle.cells.proofs.WordLaws.{bit-shr, bit-mod, bit-high, bit-shl-low, bit-shl-high, wordOf-lt, wordOf-bit, wordOf-unique}
 use Rattle.cells.proofs.MaskLaws.{low-in}
 use Rattle.cells.proofs.PairLaws.{cases}
+use Rattle.cells.proofs.CountLaws.{is-le}
 use Rattle.buffers.specs.Buffer.{bitAt}
 use Rattle.buffers.proofs.SizeLaws.{bitAt-lt}
-use Rattle.rows.specs.Row.{LegalRow}
-use Rattle.rows.specs.Tally.{column}
-use Rattle.rows.specs.Block.{digitBits}
+use Rattle.rows.specs.Row.{digitAt, column, LegalRow}
 
 -- the places of a mask of w bits keep their bits
 masked-bit : (v w i : ℕ) → i < w → bit (bitAnd v (2 ^ w - 1)) i ≡ bit v i
@@ -87,13 +86,6 @@ two-is : (u s : ℕ) → u < 2 → s ≤ u → s ≡ is (u + s) 2
 unfolding is
 two-is = cases (λ (u s : ℕ). s ≡ is (u + s) 2) refl refl refl
 
-pub is-lt : (a b : ℕ) → is a b < 2
-unfolding is
-is-lt zero zero = omega arith
-is-lt zero (suc b) = omega arith
-is-lt (suc a) zero = omega arith
-is-lt (suc a) (suc b) = is-lt a b
-
 module _ (ws : List ℕ) (x q s w u t : ℕ) (L : LegalRow ws x q q) (room : s + w ≤ 64 * q) (eu : u ≡ wordOf (λ i. bitAt ws x (s + i)) w) (et : t ≡ wordOf (λ i. bitAt ws (x + q) (s + i)) w) where
   unit-at : (i : ℕ) → i < w → bit u i ≡ bitAt ws x (s + i)
   unit-at i l = rw eu (wordOf-bit (λ i. bitAt ws x (s + i)) w i (λ i. bitAt-lt ws x (s + i)) l)
@@ -107,18 +99,18 @@ module _ (ws : List ℕ) (x q s w u t : ℕ) (L : LegalRow ws x q q) (room : s +
   sign-small : t < 2 ^ w
   sign-small = rw et (wordOf-lt (λ i. bitAt ws (x + q) (s + i)) w (λ i. bitAt-lt ws (x + q) (s + i)))
 
-  pub ones-are : bitXor u t ≡ digitBits 1 ws x q s w
-  unfolding digitBits column
+  pub ones-are : bitXor u t ≡ bitsOf 1 (column ws x q) s w
+  unfolding bitsOf column digitAt digit bitAt
   ones-are =
-      wordOf-unique (λ i. is (column ws x q (s + i)) 1) w (bitXor u t) (λ i. is-lt (column ws x q (s + i)) 1) (xor-lt w u t unit-small sign-small)
+      wordOf-unique (λ i. is (column ws x q (s + i)) 1) w (bitXor u t) (λ i. omega (arith, is-le (column ws x q (s + i)) 1)) (xor-lt w u t unit-small sign-small)
       (λ i l.
       bit-xor u t i ∙ ap₂ differ (unit-at i l) (sign-at i l)
       ∙ one-is (bitAt ws x (s + i)) (bitAt ws (x + q) (s + i)) (bitAt-lt ws x (s + i)) (column-legal ws x q (s + i) L (omega arith)))
 
-  pub twos-are : t ≡ digitBits 2 ws x q s w
-  unfolding digitBits column
+  pub twos-are : t ≡ bitsOf 2 (column ws x q) s w
+  unfolding bitsOf column digitAt digit bitAt
   twos-are =
-      wordOf-unique (λ i. is (column ws x q (s + i)) 2) w t (λ i. is-lt (column ws x q (s + i)) 2) sign-small
+      wordOf-unique (λ i. is (column ws x q (s + i)) 2) w t (λ i. omega (arith, is-le (column ws x q (s + i)) 2)) sign-small
       (λ i l.
       sign-at i l
       ∙ two-is (bitAt ws x (s + i)) (bitAt ws (x + q) (s + i)) (bitAt-lt ws x (s + i)) (column-legal ws x q (s + i) L (omega arith)))

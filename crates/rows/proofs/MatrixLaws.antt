@@ -6,13 +6,12 @@ use native.Mathlib.Nat.{suc-mul, mul-le-mul-right}
 use native.Mathlib.Decide.{decLt}
 use native.Mathlib.Omega.{arith}
 use lib.ListN.{length, getD}
-use Rattle.cells.specs.Pair.{WordPair}
+use Rattle.cells.specs.Pair.{digit, WordPair}
 use Rattle.cells.specs.Digit.{Matrix}
-use Rattle.buffers.specs.Buffer.{planes, wide, words, unit, sign, cell, Legal, Words, encode}
+use Rattle.buffers.specs.Buffer.{planes, wide, words, bitAt, unit, sign, cell, Legal, Words, encode}
 use Rattle.buffers.proofs.SizeLaws.{row-fits}
 use Rattle.buffers.proofs.BufferLaws.{shown, cell-word, word-legal}
-use Rattle.rows.specs.Tally.{column}
-use Rattle.rows.specs.Row.{digitAt, LegalRow, of1, of2, Made, Readable}
+use Rattle.rows.specs.Row.{digitAt, column, LegalRow, of1, of2, Made, Readable}
 
 -- ---- the rows of a legal buffer
 
@@ -30,7 +29,7 @@ cell-digit c i p t ws l = sym (cell-word c ws i p t l)
 
 -- the columns of row i
 pub column-cell : (c i q j : ℕ) (ws : List ℕ) → q ≡ planes c → column ws (i * (2 * q)) q j ≡ cell c ws i j
-unfolding column cell unit sign wide
+unfolding column digitAt digit cell unit sign bitAt wide
 column-cell c i q j ws e = rw e
 
 -- ---- rows, one after another

@@ -201,14 +201,6 @@ module _ (q n x y z : ℕ) (t b : List ℕ) (R : InPlace q n x y z t b) (f : ℕ
       (digitAt-later mid y q j p k ∙ digitAt-by mid t y y q (j + p) (j + p) (kept-unit (j + p) (omega arith) (omega arith)) (kept-sign (j + p) (omega arith) (omega arith)) k)
       (digitAt-later b z q j p k)
 
--- a row that is made of itself: pair p is as it was until it is made
-module _ (op : ℕ → ℕ) (x q p : ℕ) (old mid : List ℕ) (l : p < q) (M : Made (of1 op q old x) x q p old mid) where
-  pub still-unit : getD mid (x + p) 0 ≡ getD old (x + p) 0
-  still-unit = M .between (x + p) (omega arith) (omega arith)
-
-  pub still-sign : getD mid (x + p + q) 0 ≡ getD old (x + p + q) 0
-  still-sign = M .after (x + p + q) (omega arith)
-
 -- a row that is made in place, m pairs more
 pub next : (op : ℕ → ℕ → ℕ) (q n x y z : ℕ) (t b : List ℕ) (j m : ℕ) (mid new : List ℕ) → InPlace q n x y z t b → j + m ≤ n
     → Made (of2 op q t y b z) x q j t mid → Made (of2 op q mid (y + j) b (z + j)) (x + j) q m mid new → Made (of2 op q t y b z) x q (j + m) t new

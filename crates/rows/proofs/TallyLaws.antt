@@ -1,77 +1,71 @@
 -- The columns of a row that hold a digit, counted word by word. Assumes nothing.
 use mathlib.Core.Path.{_≡_, sym, ap, ap₂, _∙_}
 use mathlib.Core.List.{List}
-use Prim.Native.Nat.{ℕ, zero, suc, _+_, _-_, _*_, _^_, _≤_, _<_, min}
+use Prim.Native.Nat.{ℕ, _+_, _-_, _*_, _/_, _%_, _^_, _≤_, _<_, min}
 use native.Mathlib.Omega.{arith}
 use lib.ListN.{getD}
 use Rattle.cells.specs.Bit.{bit}
-use Rattle.cells.specs.Counts.{sumTo, is, count}
+use Rattle.cells.specs.Counts.{sum, is, count}
 use Rattle.cells.specs.Pair.{digit}
 use Rattle.cells.proofs.MaskLaws.{low-in, low-out}
-use Rattle.cells.proofs.CountLaws.{sumTo-none, sumTo-below, sumTo-split, sumTo-zero}
+use Rattle.cells.proofs.SumLaws.{sum-more, sum-none, sum-le, sum-same, sum-ext, sum-from}
+use Rattle.cells.proofs.CountLaws.{is-le}
 use Rattle.buffers.specs.Buffer.{planes}
-use Rattle.buffers.proofs.SizeLaws.{planes-room, planes-tight, bitAt-word}
-use Rattle.rows.specs.Tally.{column, columnsWith}
+use Rattle.buffers.proofs.SizeLaws.{planes-room, planes-tight}
+use Rattle.rows.specs.Row.{digitAt, column}
+use Rattle.rows.specs.Tally.{columnsWith}
 
 -- column 64 p + t is place t of pair p
 pub column-word : (ws : List ℕ) (x q p t : ℕ) → t < 64 → column ws x q (64 * p + t) ≡ digit (getD ws (x + p) 0) (getD ws (x + p + q) 0) t
-unfolding column digit
+unfolding column digitAt
 column-word ws x q p t l =
+    let d : (64 * p + t) / 64 ≡ p = omega arith in
+    let m : (64 * p + t) % 64 ≡ t = omega arith in
     let e : x + q + p ≡ x + p + q = omega arith in
-    rw (bitAt-word ws x p t l, bitAt-word ws (x + q) p t l, e)
+    rw (d, m, e)
 
 -- the count under a mask of the lowest n places is the sum over them
-count-low : (d u s n : ℕ) → n ≤ 64 → count d u s (2 ^ n - 1) ≡ sumTo (λ t. is (digit u s t) d) n
+count-low : (d u s n : ℕ) → n ≤ 64 → count d u s (2 ^ n - 1) ≡ sum 0 n (λ t. is (digit u s t) d)
 unfolding count
 count-low d u s n h =
     let f : ℕ → ℕ = λ t. bit (2 ^ n - 1) t * is (digit u s t) d in
     let e : n + (64 - n) ≡ 64 = omega arith in
-    ap (sumTo f) (sym e) ∙ sumTo-split f n (64 - n)
+    ap (λ (k : ℕ). sum 0 k f) (sym e) ∙ sum-more f n (64 - n)
     ∙ omega (
       arith,
-      sumTo-below f (λ t. is (digit u s t) d) n (λ t l. rw (low-in n t l) (omega arith)),
-      sumTo-below (λ t. f (n + t)) (λ t. 0) (64 - n) (λ t l. rw (low-out n (n + t) (omega arith)) (omega arith)),
-      sumTo-zero (64 - n),
+      sum-ext f (λ t. is (digit u s t) d) n 0 (λ t _ l. rw (low-in n t (omega arith)) (omega arith)),
+      sum-ext f (λ t. 0) (64 - n) n (λ t l _. rw (low-out n t l) (omega arith)),
+      sum-same 0 (64 - n) n,
     )
 
 module _ (ws : List ℕ) (x q c : ℕ) (row : q ≡ planes c) where
-  pub tally-none : (d : ℕ) → 0 ≡ columnsWith d ws x q (min c (64 * 0))
+  pub tally-none : (d : ℕ) → 0 ≡ columnsWith d (column ws x q) (min c (64 * 0))
   unfolding columnsWith
   tally-none d =
       let e : min c (64 * 0) ≡ 0 = omega arith in
-      rw e (sym (sumTo-none (λ j. is (column ws x q j) d)))
+      rw e (sym (sum-none (λ j. is (column ws x q j) d) 0))
 
   -- pair p more, of whose places n are columns: m is their mask
   pub tally-more : (d p u s n m k g : ℕ) → p < q → n ≡ min 64 (c - 64 * p) → m ≡ 2 ^ n - 1 → u ≡ getD ws (x + p) 0 → s ≡ getD ws (x + p + q) 0
-      → k ≡ columnsWith d ws x q (min c (64 * p)) → g ≡ count d u s m → k + g ≡ columnsWith d ws x q (min c (64 * (p + 1)))
+      → k ≡ columnsWith d (column ws x q) (min c (64 * p)) → g ≡ count d u s m → k + g ≡ columnsWith d (column ws x q) (min c (64 * (p + 1)))
   unfolding columnsWith
   tally-more d p u s n m k g l en em eu es ek eg =
       let f : ℕ → ℕ = λ j. is (column ws x q j) d in
       let a : min c (64 * (p + 1)) ≡ 64 * p + n = omega (arith, planes-room c, planes-tight c) in
       let b : min c (64 * p) ≡ 64 * p = omega (arith, planes-room c, planes-tight c) in
-      let now : k ≡ sumTo f (64 * p) = ek ∙ ap (sumTo f) b in
-      let new : g ≡ sumTo (λ t. f (64 * p + t)) n =
+      let now : k ≡ sum 0 (64 * p) f = ek ∙ ap (λ (i : ℕ). sum 0 i f) b in
+      let new : g ≡ sum (64 * p) n f =
       eg ∙ ap (count d u s) em ∙ count-low d u s n (omega arith)
-      ∙ sumTo-below (λ t. is (digit u s t) d) (λ t. f (64 * p + t)) n (λ t h. rw (column-word ws x q p t (omega arith), eu, es)) in
-      ap₂ _+_ now new ∙ sym (ap (sumTo f) a ∙ sumTo-split f (64 * p) n)
+      ∙ sum-ext (λ t. is (digit u s t) d) (λ t. f (64 * p + t)) n 0 (λ t _ h. rw (column-word ws x q p t (omega arith), eu, es))
+      ∙ sym (sum-from f (64 * p) n) in
+      ap₂ _+_ now new ∙ sym (ap (λ (i : ℕ). sum 0 i f) a ∙ sum-more f (64 * p) n)
 
-  pub tally-all : (d p k : ℕ) → q ≤ p → k ≡ columnsWith d ws x q (min c (64 * p)) → k ≡ columnsWith d ws x q c
+  pub tally-all : (d p k : ℕ) → q ≤ p → k ≡ columnsWith d (column ws x q) (min c (64 * p)) → k ≡ columnsWith d (column ws x q) c
   tally-all d p k h e =
       let a : min c (64 * p) ≡ c = omega (arith, planes-room c) in
       rw a at e
 
 -- no more columns than there are hold a digit
-is-le : (a b : ℕ) → is a b ≤ 1
-unfolding is
-is-le zero zero = omega arith
-is-le zero (suc b) = omega arith
-is-le (suc a) zero = omega arith
-is-le (suc a) (suc b) = is-le a b
-
-pub columns-le : (d : ℕ) (ws : List ℕ) (x q c : ℕ) → columnsWith d ws x q c ≤ c
-unfolding columnsWith sumTo
-columns-le d ws x q c = go c
-  where
-    go : (n : ℕ) → sumTo (λ j. is (column ws x q j) d) n ≤ n
-    go zero = omega arith
-    go (suc n) = omega (arith, go n, is-le (column ws x q n) d)
+pub columns-le : (d : ℕ) (row : ℕ → ℕ) (c : ℕ) → columnsWith d row c ≤ c
+unfolding columnsWith
+columns-le d row c = omega (arith, sum-le (λ j. is (row j) d) (λ _. 1) (λ j. is-le (row j) d) c 0, sum-same 1 c 0)

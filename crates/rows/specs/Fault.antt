@@ -2,31 +2,20 @@
 use mathlib.Core.Path.{_≡_}
 use mathlib.Core.Bool.{Bool, true, false}
 use mathlib.Core.List.{List}
-use Prim.Native.Nat.{ℕ, _+_, _-_, _*_}
-use lib.Dec.{ltb}
-use Rattle.cells.specs.Any.{any}
+use Prim.Native.Nat.{ℕ, _+_, _*_}
+use Rattle.cells.specs.Fault.{strayIn, paddedIn}
 use Rattle.buffers.specs.Buffer.{bitAt}
-use Rattle.rows.specs.declared.fault.Finding.{Finding}
-use Rattle.rows.specs.declared.fault.Finding.the-variants.{Clean, Stray, Padding}
+use Rattle.rows.specs.Row.{column}
 
 -- a real column holds sign without unit
 unfoldable pub strayRow : List ℕ → ℕ → ℕ → ℕ → Bool
-strayRow ws x q c = any c (λ j. ltb (bitAt ws x j) (bitAt ws (x + q) j))
+strayRow ws x q c = strayIn (bitAt ws x) (bitAt ws (x + q)) c
 
 -- a padding bit is set, in either plane
 unfoldable pub paddedRow : List ℕ → ℕ → ℕ → ℕ → Bool
-paddedRow ws x q c = any (64 * q - c) (λ j. ltb 0 (bitAt ws x (c + j) + bitAt ws (x + q) (c + j)))
+paddedRow ws x q c = paddedIn (column ws x q) c (64 * q)
 
 -- the word w, in which faults are gathered, is 0 exactly where there are none
 pub record Found (w : ℕ) (b : Bool) : Type 0 where
   pub none : w ≡ 0 → b ≡ false
   pub some : (w ≡ 0 → ⊥) → b ≡ true
-
--- the first fault: any stray sign comes before any padding
-abbrev firstOf : Bool → Bool → Finding
-firstOf true p = Stray
-firstOf false true = Padding
-firstOf false false = Clean
-
-unfoldable pub faultRow : List ℕ → ℕ → ℕ → ℕ → Finding
-faultRow ws x q c = firstOf (strayRow ws x q c) (paddedRow ws x q c)

@@ -3,13 +3,17 @@
 use mathlib.Core.Path.{_≡_}
 use mathlib.Core.List.{List}
 use mathlib.Core.Logic.{_⊎_}
-use Prim.Native.Nat.{ℕ, _+_, _≤_, _<_}
+use Prim.Native.Nat.{ℕ, _+_, _/_, _%_, _≤_, _<_}
 use lib.ListN.{length, getD}
 use Rattle.cells.specs.Pair.{digit, LegalPair, WordPair}
 
 -- the digit at place t of pair p of the row at word x
 unfoldable pub digitAt : List ℕ → ℕ → ℕ → ℕ → ℕ → ℕ
 digitAt ws x q p t = digit (getD ws (x + p) 0) (getD ws (x + q + p) 0) t
+
+-- the digit in its column j, which is place j % 64 of pair j / 64
+unfoldable pub column : List ℕ → ℕ → ℕ → ℕ → ℕ
+column ws x q j = digitAt ws x q (j / 64) (j % 64)
 
 -- the first n pairs of the row at word x are legal
 unfoldable pub LegalRow : List ℕ → ℕ → ℕ → ℕ → Type 0

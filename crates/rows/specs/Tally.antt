@@ -1,16 +1,11 @@
--- How many of the c columns of a row hold a digit. Assumes nothing.
+-- How many of the c columns of a row of digits hold a digit. Assumes nothing.
 use mathlib.Core.List.{List, [], _∷_}
-use Prim.Native.Nat.{ℕ, _+_}
-use Rattle.cells.specs.Counts.{sumTo, is}
-use Rattle.buffers.specs.Buffer.{bitAt}
+use Prim.Native.Nat.{ℕ}
+use Rattle.cells.specs.Counts.{sum, is}
 
--- the digit in column j of the row at word x
-unfoldable pub column : List ℕ → ℕ → ℕ → ℕ → ℕ
-column ws x q j = bitAt ws x j + bitAt ws (x + q) j
-
-unfoldable pub columnsWith : ℕ → List ℕ → ℕ → ℕ → ℕ → ℕ
-columnsWith d ws x q c = sumTo (λ j. is (column ws x q j) d) c
+unfoldable pub columnsWith : ℕ → (ℕ → ℕ) → ℕ → ℕ
+columnsWith d row c = sum 0 c (λ j. is (row j) d)
 
 -- zeros, ones and twos
-unfoldable pub tallyRow : List ℕ → ℕ → ℕ → ℕ → List ℕ
-tallyRow ws x q c = columnsWith 0 ws x q c ∷ columnsWith 1 ws x q c ∷ columnsWith 2 ws x q c ∷ []
+unfoldable pub tallyRow : (ℕ → ℕ) → ℕ → List ℕ
+tallyRow row c = columnsWith 0 row c ∷ columnsWith 1 row c ∷ columnsWith 2 row c ∷ []

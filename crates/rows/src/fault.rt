@@ -1,16 +1,10 @@
-// The first fault of a row: sign without unit in a real column, then a padding bit.
+// The two faults of a row: sign without unit in a real column, and a padding bit.
 ghost use mathlib.Core.Path.{_≡_};
 ghost use Prim.Native.Nat.{_+_, _*_, _≤_};
 ghost use lib.ListN.{length};
 ghost use Rattle.buffers.specs.Buffer.{planes};
-ghost use Rattle.rows.specs.Fault.{Found, strayRow, paddedRow, faultRow};
+ghost use Rattle.rows.specs.Fault.{Found, strayRow, paddedRow};
 use super::words::load;
-
-pub enum Finding {
-    Clean,
-    Stray,
-    Padding,
-}
 
 // The sign bits without unit of the first n pairs, all laid over one another: no test in the loop, so that it becomes vector code.
 pub fn strays(a: &[u64], q: usize, n: usize, x: usize) -> u64
@@ -54,17 +48,4 @@ pub fn padded(a: &[u64], q: usize, c: usize, x: usize) -> bool
     }
     let v = load(a, q, x + (q - 1));
     cells::fault::padded(v, n as u64)
-}
-
-pub fn fault(a: &[u64], q: usize, c: usize, x: usize) -> Finding
-    requires { ⌜ (q ≡ planes c) × (c ≤ 1024) × (x + (q + q) ≤ length (now a)) ⌝ }
-    ensures { λ r. ⌜ r ≡ faultRow (now (a .entry)) x q c ⌝ }
-{
-    if stray(a, q, c, x) {
-        return Finding::Stray;
-    }
-    if padded(a, q, c, x) {
-        return Finding::Padding;
-    }
-    Finding::Clean
 }

@@ -2,7 +2,6 @@
 pub mod add;
 pub mod block;
 pub mod clear;
-pub mod copy;
 pub mod difference;
 pub mod fault;
 pub mod negation;

@@ -1,4 +1,4 @@
-// A row negated, in place and from part to part.
+// A row negated, from part to part.
 ghost use Prim.Native.Nat.{_+_, _≤_};
 ghost use lib.ListN.{length};
 ghost use Rattle.cells.specs.Digit.{neg3};
@@ -6,19 +6,6 @@ ghost use Rattle.rows.specs.Row.{of1, Made, Readable, Writable};
 use super::words::load;
 use super::words::store;
 use super::words::store_two;
-
-// The row at x of t becomes its negative.
-pub fn negate(t: &mut [u64], q: usize, x: usize)
-    requires { ⌜ Readable q q x (now t) ⌝ }
-    ensures { λ _. ⌜ Made (of1 neg3 q (now (t .entry)) x) x q q (now (t .entry)) (now (t .exit)) ⌝ }
-{
-    let mut p = 0;
-    while p < q {
-        let v = load(t, q, x + p);
-        store(t, q, x + p, cells::negation::negation(v));
-        p += 1;
-    }
-}
 
 fn negation_one(out: &mut [u64], a: &[u64], q: usize, x: usize, y: usize)
     requires { ⌜ Writable q 1 x (now out) × Readable q 1 y (now a) ⌝ }

@@ -1,23 +1,10 @@
-// A row times a digit, in place and from part to part.
+// A row times a digit, from part to part.
 ghost use Prim.Native.Nat.{_+_, _≤_, _<_};
 ghost use lib.ListN.{length};
 ghost use Rattle.cells.specs.Digit.{mul3};
 ghost use Rattle.rows.specs.Row.{of1, Made, Readable};
 use super::words::load;
 use super::words::store;
-
-// The row at x of t becomes d times itself.
-pub fn scale(t: &mut [u64], q: usize, x: usize, d: u64)
-    requires { ⌜ (d < 3) × Readable q q x (now t) ⌝ }
-    ensures { λ _. ⌜ Made (of1 (λ a. mul3 a d) q (now (t .entry)) x) x q q (now (t .entry)) (now (t .exit)) ⌝ }
-{
-    let mut p = 0;
-    while p < q {
-        let v = load(t, q, x + p);
-        store(t, q, x + p, cells::scaling::scale(v, d));
-        p += 1;
-    }
-}
 
 // The row at x of out becomes d times the row at y of a.
 pub fn scaling(out: &mut [u64], a: &[u64], q: usize, x: usize, y: usize, d: u64)

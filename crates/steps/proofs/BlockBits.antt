@@ -1,71 +1,42 @@
 -- The numbers P and N: a bit for each 1, or each 2, of a block of a row. Assumes nothing.
 use Prim.Native.Nat.{ℕ, zero, suc, _+_, _-_, _*_, _/_, _%_, _^_, _≤_, _<_}
-use mathlib.Core.Path.{_≡_, refl, ap}
-use mathlib.Core.Logic.{_≢_}
+use mathlib.Core.Path.{_≡_, refl, sym, ap, ap₂, _∙_}
 use native.Mathlib.Omega.{arith}
-use native.Mathlib.Nat.{add-zero, div-div-eq-div-mul, pow-succ', div-one}
-use lib.Dec.{lit<, lit≤}
-use Rattle.steps.specs.Matrix.{Row, sum}
-use Rattle.cells.specs.Counts.{is}
-use Rattle.steps.specs.StepList.{bitsOf}
+use native.Mathlib.Nat.{add-zero}
+use Rattle.steps.specs.Matrix.{Row}
+use Rattle.cells.specs.Bit.{wordOf}
+use Rattle.cells.specs.Counts.{sum, is, bitsOf}
+use Rattle.cells.proofs.WordLaws.{wordOf-lt}
+use Rattle.cells.proofs.CountLaws.{is-le}
 use Rattle.steps.specs.Step.{lowestBit, cleared}
 use Rattle.steps.proofs.LowestBit.{lowest-ind}
 
-pub is-le : (a d : ℕ) → is a d ≤ 1
-unfolding is
-is-le zero zero = lit≤ tt
-is-le zero (suc d) = lit≤ tt
-is-le (suc a) zero = lit≤ tt
-is-le (suc a) (suc d) = is-le a d
+pub bits-none : (d : ℕ) (r : Row) (s : ℕ) → bitsOf d r s 0 ≡ 0
+unfolding bitsOf wordOf
+bits-none d r s = refl
 
-pub is-same : (a d : ℕ) → a ≡ d → is a d ≡ 1
-unfolding is
-is-same zero zero e = refl
-is-same zero (suc d) e = absurd (omega arith)
-is-same (suc a) zero e = absurd (omega arith)
-is-same (suc a) (suc d) e = is-same a d (omega arith)
-
-pub is-other : (a d : ℕ) → a ≢ d → is a d ≡ 0
-unfolding is
-is-other zero zero n = absurd (n refl)
-is-other zero (suc d) n = refl
-is-other (suc a) zero n = refl
-is-other (suc a) (suc d) n = is-other a d (λ e. n (ap suc e))
+-- the first column, and then the others
+pub bits-first : (d : ℕ) (r : Row) (w s : ℕ) → bitsOf d r s (suc w) ≡ is (r s) d + 2 * bitsOf d r (suc s) w
+unfolding bitsOf wordOf
+bits-first d r w s =
+    let here : is (r (s + 0)) d ≡ is (r s) d = ap (λ (j : ℕ). is (r j) d) (add-zero s) in
+    let rest : wordOf (λ i. is (r (s + suc i)) d) w ≡ wordOf (λ i. is (r (suc s + i)) d) w = ap (λ (f : ℕ → ℕ). wordOf f w) (λ k i. is (r (next i k)) d) in
+    omega (arith, here, rest)
+  where
+    next : (i : ℕ) → s + suc i ≡ suc s + i
+    next i = omega arith
 
 pub bits-lt : (d : ℕ) (r : Row) (w s : ℕ) → bitsOf d r s w < 2 ^ w
 unfolding bitsOf
-bits-lt d r zero s = lit< tt
-bits-lt d r (suc w) s = omega (arith, bits-lt d r w (suc s), is-le (r s) d)
+bits-lt d r w s = wordOf-lt (λ i. is (r (s + i)) d) w (λ i. omega (arith, is-le (r (s + i)) d))
 
 -- only the block's own columns are read
 pub bits-same : (d : ℕ) (r r′ : Row) (w s : ℕ) → ((j : ℕ) → s ≤ j → j < s + w → r j ≡ r′ j) → bitsOf d r s w ≡ bitsOf d r′ s w
-unfolding bitsOf
-bits-same d r r′ zero s h = refl
-bits-same d r r′ (suc w) s h = rw (h s (omega arith) (omega arith), bits-same d r r′ w (suc s) (λ j a b. h j (omega arith) (omega arith)))
-
--- bit t is that of column s + t
-pub bits-at : (d : ℕ) (r : Row) (w s t : ℕ) → t < w → bitsOf d r s w / 2 ^ t % 2 ≡ is (r (s + t)) d
-unfolding bitsOf
-bits-at d r zero s t h = absurd (omega arith)
-bits-at d r (suc w) s zero h = rw (add-zero s, div-one) (omega (arith, is-le (r s) d))
-bits-at d r (suc w) s (suc t) h =
-    let e₁ : (is (r s) d + 2 * bitsOf d r (suc s) w) / 2 ≡ bitsOf d r (suc s) w = omega (arith, is-le (r s) d) in
-    let e₂ : s + suc t ≡ suc s + t = omega arith in
-    rw (pow-succ', ← (div-div-eq-div-mul (is (r s) d + 2 * bitsOf d r (suc s) w) 2 (2 ^ t)), e₁, e₂) (bits-at d r w (suc s) t (omega arith))
-
--- and no other number below 2 ^ w has these bits
-pub bits-only : (d : ℕ) (r : Row) (w s p : ℕ) → p < 2 ^ w → ((t : ℕ) → t < w → p / 2 ^ t % 2 ≡ is (r (s + t)) d) → p ≡ bitsOf d r s w
-unfolding bitsOf
-bits-only d r zero s p lt h = omega arith
-bits-only d r (suc w) s p lt h =
-    let low : p % 2 ≡ is (r s) d = rw (div-one, add-zero s) at (h 0 (omega arith)) in
-    let high : p / 2 ≡ bitsOf d r (suc s) w = bits-only d r w (suc s) (p / 2) (omega arith) further in
-    omega arith
-  where
-    further : (t : ℕ) → t < w → p / 2 / 2 ^ t % 2 ≡ is (r (suc s + t)) d
-    further t q =
-        let e : suc s + t ≡ s + suc t = omega arith in
-        rw (div-div-eq-div-mul, ← (pow-succ' 2 t), e) (h (suc t) (omega arith))
+bits-same d r r′ zero s h = bits-none d r s ∙ sym (bits-none d r′ s)
+bits-same d r r′ (suc w) s h =
+    bits-first d r w s
+    ∙ ap₂ (λ (a b : ℕ). is a d + 2 * b) (h s (omega arith) (omega arith)) (bits-same d r r′ w (suc s) (λ j a b. h j (omega arith) (omega arith)))
+    ∙ sym (bits-first d r′ w s)
 
 -- ---- what a number picks: the sum of g (s + t) over its set bits t < w
 
@@ -118,8 +89,8 @@ digit (suc (suc (suc a))) y h = absurd (omega arith)
 -- a row is its ones and twice its twos
 pub ones-and-twos : (r : Row) (g : ℕ → ℕ) (w s : ℕ) → ((j : ℕ) → j < s + w → r j < 3)
     → picked (bitsOf 1 r s w) g s w + 2 * picked (bitsOf 2 r s w) g s w ≡ sum s w (λ j. r j * g j)
-unfolding bitsOf sum
-ones-and-twos r g zero s h = rw picked-zero
+unfolding sum
+ones-and-twos r g zero s h = rw (bits-none 1 r s, bits-none 2 r s, picked-zero)
 ones-and-twos r g (suc w) s h =
-    rw (picked-bit (is (r s) 1) (bitsOf 1 r (suc s) w) g w s (is-le _ _), picked-bit (is (r s) 2) (bitsOf 2 r (suc s) w) g w s (is-le _ _))
+    rw (bits-first 1 r w s, bits-first 2 r w s, picked-bit (is (r s) 1) (bitsOf 1 r (suc s) w) g w s (is-le _ _), picked-bit (is (r s) 2) (bitsOf 2 r (suc s) w) g w s (is-le _ _))
     (omega (arith, digit (r s) (g s) (h s (omega arith)), ones-and-twos r g w (suc s) (λ j lt. h j (omega arith))))

@@ -8,12 +8,12 @@ use lib.Dec.{lit≤}
 use lib.Pow.{pow-mono}
 use lib.ListN.{length, length-append}
 use Rattle.cells.specs.Digit.{Matrix}
-use Rattle.steps.specs.Matrix.{sum}
 use Rattle.steps.specs.Step.{Step, tableStep, plus, minus}
-use Rattle.cells.specs.Counts.{is}
-use Rattle.steps.specs.StepList.{bitsOf, unless0, each, tableSteps, rowSteps, blockSteps, blocks, blockWidth, blockAt, steps}
+use Rattle.cells.specs.Counts.{sum, is}
+use Rattle.steps.specs.StepList.{unless0, each, tableSteps, rowSteps, blockSteps, blocks, blockWidth, blockAt, steps}
 use Rattle.steps.specs.Count.{quote, total, rowCount, blockCount, countAt}
-use Rattle.steps.proofs.Sums.{sum-le, sum-same, sum-ext}
+use Rattle.cells.proofs.SumLaws.{sum-le, sum-same, sum-ext}
+use Rattle.steps.proofs.BlockBits.{bits-none, bits-first}
 use Rattle.steps.proofs.Loops.{length-each, no-blocks, blocks-within, width-le}
 
 pub length-unless0 : (step : ℕ → Step) (x : ℕ) → length (unless0 step x) ≡ min 1 x
@@ -57,9 +57,9 @@ not-both (suc (suc (suc a))) = lit≤ tt
 
 -- a row of a block of w columns takes at most 2 steps, and at most w
 pub row-le : (A : Matrix) (s w i : ℕ) → rowCount A s w i ≤ min 2 w
-unfolding rowCount bitsOf
-row-le A s zero i = lit≤ tt
-row-le A s (suc zero) i = omega (arith, not-both (A i s))
+unfolding rowCount
+row-le A s zero i = rw (bits-none 1 (A i) s, bits-none 2 (A i) s) (lit≤ tt)
+row-le A s (suc zero) i = omega (arith, bits-first 1 (A i) 0 s, bits-first 2 (A i) 0 s, bits-none 1 (A i) (suc s), bits-none 2 (A i) (suc s), not-both (A i s))
 row-le A s (suc (suc w)) i = omega arith
 
 pub block-le : (m : ℕ) (A : Matrix) (s w : ℕ) → blockCount m A s w ≤ (2 ^ w - 1) + m * min 2 w

@@ -5,8 +5,9 @@ use native.Mathlib.Omega.{arith}
 use lib.Pow.{pow-mono}
 use lib.ListN.{take, drop}
 use Rattle.cells.specs.Digit.{Matrix}
+use Rattle.cells.specs.Counts.{bitsOf}
 use Rattle.steps.specs.Step.{Step, tableStep, plus, minus, lowestBit, cleared}
-use Rattle.steps.specs.StepList.{bitsOf, unless0, many, each, tableSteps, rowSteps, blockSteps, blocks, blockAt, steps}
+use Rattle.steps.specs.StepList.{unless0, many, each, tableSteps, rowSteps, blockSteps, blocks, blockAt, steps}
 use Rattle.steps.proofs.LowestBit.{lowest-lt, cleared-lt}
 use Rattle.steps.proofs.BlockBits.{bits-lt}
 use Rattle.steps.proofs.Loops.{width-within, width-le}

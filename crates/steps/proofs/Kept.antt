@@ -1,4 +1,4 @@
--- Theorem: what a block's steps leave as it was: table row 0, the table's rows from 2 ^ w on, and the product's from m on. Assumes nothing.
+-- Theorem: what a block's steps leave as it was: table row 0, and the table's rows from 2 ^ w on. Assumes nothing.
 use Prim.Native.Nat.{ℕ, suc, _+_, _*_, _^_, _≤_, _<_}
 use mathlib.Core.Path.{_≡_, refl, _∙_}
 use mathlib.Core.Logic.{_⊎_, inl, inr}
@@ -29,17 +29,6 @@ module _ (m l w : ℕ) (B : Matrix) where
   unfolding run
   run-keeps-table [] st fs x u j = refl
   run-keeps-table (p ∷ ps) st (f, fs) x u j = run-keeps-table ps (apply B p st) fs x u j ∙ apply-keeps-table p st f x u j
-
-  apply-keeps-product : (p : Step) (st : State) → Fits m l w p → (i : ℕ) → m ≤ i → (j : ℕ) → apply B p st .product i j ≡ st .product i j
-  unfolding apply
-  apply-keeps-product (tableStep s y) st f i h j = refl
-  apply-keeps-product (plus r y) st f i h j = put-other _ _ _ _ _ (λ (q : i ≡ r). omega arith)
-  apply-keeps-product (minus r y) st f i h j = put-other _ _ _ _ _ (λ (q : i ≡ r). omega arith)
-
-  pub run-keeps-product : (ps : List Step) (st : State) → AllFit m l w ps → (i : ℕ) → m ≤ i → (j : ℕ) → run B ps st .product i j ≡ st .product i j
-  unfolding run
-  run-keeps-product [] st fs i h j = refl
-  run-keeps-product (p ∷ ps) st (f, fs) i h j = run-keeps-product ps (apply B p st) fs i h j ∙ apply-keeps-product p st f i h j
 
 -- a block of width w writes table rows 1 to 2 ^ w - 1 only
 pub block-keeps-table : (m : ℕ) (A B : Matrix) (s w : ℕ) (st : State) (x : ℕ) → Untouched w x → (j : ℕ)

@@ -2,16 +2,17 @@
 use Rattle.cells.specs.Digit.{add3, sub3}
 use mathlib.Core.Path.{refl}
 use lib.Count.{trailingZeros}
-use Rattle.steps.specs.Matrix.{sum, schoolbook}
+use Rattle.steps.specs.Matrix.{schoolbook}
 use Rattle.steps.specs.Step.{lowestBit, cleared, put, apply, run, opening}
-use Rattle.cells.specs.Counts.{is}
-use Rattle.steps.specs.StepList.{bitsOf, unless0, many, each, tableSteps, rowSteps, blockSteps, blocks, blockWidth, steps}
+use Rattle.cells.specs.Bit.{wordOf}
+use Rattle.cells.specs.Counts.{sum, is, bitsOf}
+use Rattle.steps.specs.StepList.{unless0, many, each, tableSteps, rowSteps, blockSteps, blocks, blockWidth, steps}
 use Rattle.steps.specs.Count.{quote, total}
 use Rattle.steps.specs.Turn.{after}
 use Rattle.steps.specs.KnownSums.{KnownSums, written, listed, shown, sampleA, sampleB, sampleAfter}
 
 pub known-sums : KnownSums
-unfolding written listed shown sampleA sampleB sampleAfter after sum schoolbook lowestBit cleared trailingZeros put apply run opening is bitsOf unless0 many each tableSteps rowSteps blockSteps blocks blockWidth steps quote total add3 sub3
+unfolding written listed shown sampleA sampleB sampleAfter after sum schoolbook lowestBit cleared trailingZeros put apply run opening is wordOf bitsOf unless0 many each tableSteps rowSteps blockSteps blocks blockWidth steps quote total add3 sub3
 known-sums = record {
   1+1 = refl;
   1+2 = refl;

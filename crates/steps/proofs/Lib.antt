@@ -1,4 +1,3 @@
-pub mod Sums
 pub mod LowestBit
 pub mod BlockBits
 pub mod Running

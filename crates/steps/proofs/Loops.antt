@@ -5,7 +5,7 @@ use mathlib.Core.List.{List, [], _++_, append-assoc}
 use native.Mathlib.Omega.{arith}
 use native.Mathlib.Nat.{sub-self, le-div-iff-mul-le, lt-div-mul-add}
 use lib.ListN.{length, length-append}
-use Rattle.steps.specs.Matrix.{sum}
+use Rattle.cells.specs.Counts.{sum}
 use Rattle.steps.specs.Step.{Step}
 use Rattle.steps.specs.StepList.{many, each, blocks, blockWidth}
 

@@ -4,7 +4,6 @@ use mathlib.Core.Path.{_≡_, refl, sym, ap, _∙_}
 use native.Mathlib.Omega.{arith}
 use native.Mathlib.Nat.{div-div-eq-div-mul, pow-succ', div-one}
 use lib.Pow.{pow-pos}
-use lib.Bits.{bitAnd, and-step, and-self}
 use lib.Count.{trailingZeros}
 use Rattle.steps.specs.Step.{lowestBit, cleared}
 
@@ -125,17 +124,3 @@ lowest-only x t p one none = omega (arith, no-higher, no-lower)
 pub cleared-only : (x t rest : ℕ) → 0 < x → t ≡ lowestBit x → x ≡ rest + 2 ^ t → rest ≡ cleared x
 unfolding cleared
 cleared-only x t rest p e h = rw (← e) (omega arith)
-
--- what a machine's `x & (x - 1)` gives
-pub cleared-and : (x : ℕ) → 0 < x → bitAnd x (x - 1) ≡ cleared x
-cleared-and = lowest-ind (λ x. bitAnd x (x - 1) ≡ cleared x) odd even
-  where
-    odd : (x : ℕ) → x % 2 ≡ 1 → lowestBit x ≡ 0 → cleared x ≡ x - 1 → bitAnd x (x - 1) ≡ cleared x
-    odd x e _ c =
-        let e₁ : (x - 1) / 2 ≡ x / 2 = omega arith in
-        let e₂ : (x - 1) % 2 ≡ 0 = omega arith in
-        and-step x (x - 1) ∙ rw (e₁, and-self, e₂, e) (omega arith)
-
-    even : (x : ℕ) → 0 < x → x % 2 ≡ 0 → lowestBit x ≡ suc (lowestBit (x / 2)) → cleared x ≡ 2 * cleared (x / 2)
-        → bitAnd (x / 2) (x / 2 - 1) ≡ cleared (x / 2) → bitAnd x (x - 1) ≡ cleared x
-    even x p e _ c ih = let e₁ : (x - 1) / 2 ≡ x / 2 - 1 = omega arith in and-step x (x - 1) ∙ rw (e, e₁, ih) (omega arith)

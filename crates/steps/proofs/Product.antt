@@ -4,13 +4,14 @@ use mathlib.Core.Path.{_≡_, refl, sym, ap, _∙_}
 use mathlib.Core.Logic.{_≢_, _⊎_, inl, inr, ⊎-elim}
 use mathlib.Core.List.{[], _∷_}
 use native.Mathlib.Omega.{arith}
-use native.Mathlib.Nat.{le-refl, le-of-suc-le-suc, eq-or-lt-of-le}
+use native.Mathlib.Nat.{le-refl, le-of-suc-le-suc, eq-or-lt-of-le, add-mul-mod-self-right}
 use lib.Pow.{pow-pos}
 use Rattle.cells.specs.Digit.{Matrix, add3, sub3}
-use Rattle.steps.specs.Matrix.{Digits, sum, schoolbook}
+use Rattle.cells.specs.Counts.{sum, bitsOf}
+use Rattle.steps.specs.Matrix.{Digits, schoolbook}
 use Rattle.steps.specs.Step.{tableStep, plus, minus, State, cleared, apply, run, opening}
-use Rattle.steps.specs.StepList.{bitsOf, unless0, tableSteps, rowSteps, blockSteps, blocks, blockWidth, blockAt, steps}
-use Rattle.steps.proofs.Sums.{sum-more, congruent}
+use Rattle.steps.specs.StepList.{unless0, tableSteps, rowSteps, blockSteps, blocks, blockWidth, blockAt, steps}
+use Rattle.cells.proofs.SumLaws.{sum-more}
 use Rattle.steps.proofs.LowestBit.{cleared-lt}
 use Rattle.steps.proofs.BlockBits.{bits-lt, picked, picked-zero, picked-lowest, ones-and-twos}
 use Rattle.steps.proofs.Running.{put-same, put-other, run-append, each-holds}
@@ -71,6 +72,10 @@ minus-right : (B : Matrix) (i x : ℕ) (st : State) → Ready i st → Added 2 i
 unfolding run apply unless0 sub3
 minus-right B i zero st r = nothing 2 i st r
 minus-right B i (suc x) st r = record { table = refl; here = λ j. put-same _ _ _ _; there = λ i′ n j. put-other _ _ _ _ _ n }
+
+-- two numbers that differ by a multiple of 3 have one digit
+congruent : (x y q : ℕ) → y ≡ x + q * 3 → x % 3 ≡ y % 3
+congruent x y q e = rw (e, add-mul-mod-self-right)
 
 mod3 : (a p n : ℕ) → ((a % 3 + 1 * (p % 3)) % 3 + 2 * (n % 3)) % 3 ≡ (a + (p + 2 * n)) % 3
 mod3 a p n = congruent _ _ ((a % 3 + 1 * (p % 3)) / 3 + a / 3 + p / 3 + 2 * (n / 3)) (omega arith)

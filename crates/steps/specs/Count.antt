@@ -2,7 +2,7 @@
 use Prim.Native.Nat.{ℕ, _+_, _-_, _*_, _^_, min}
 use lib.ListN.{length}
 use Rattle.cells.specs.Digit.{Matrix}
-use Rattle.steps.specs.Matrix.{sum}
+use Rattle.cells.specs.Counts.{sum}
 use Rattle.steps.specs.StepList.{P, N, blocks, blockWidth, steps}
 
 unfoldable pub quote : ℕ → ℕ → ℕ → ℕ

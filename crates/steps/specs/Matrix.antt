@@ -1,7 +1,8 @@
 -- Matrices over the field of three elements, and their schoolbook product. Assumes nothing.
 use mathlib.Core.Path.{_≡_}
 use Rattle.cells.specs.Digit.{Matrix}
-use Prim.Native.Nat.{ℕ, zero, suc, _+_, _*_, _%_, _<_}
+use Rattle.cells.specs.Counts.{sum}
+use Prim.Native.Nat.{ℕ, _*_, _%_, _<_}
 
 abbrev pub Row : Type 0
 Row = ℕ → ℕ
@@ -13,11 +14,6 @@ Digits r c M = (i j : ℕ) → i < r → j < c → M i j < 3
 -- two matrices hold the same cells in the first r rows and c columns
 abbrev pub SameCells : ℕ → ℕ → Matrix → Matrix → Type 0
 SameCells r c M M′ = (i j : ℕ) → i < r → j < c → M i j ≡ M′ i j
-
--- f s + f (s + 1) + .., n terms
-unfoldable pub sum : ℕ → ℕ → (ℕ → ℕ) → ℕ
-sum s zero f = 0
-sum s (suc n) f = f s + sum (suc s) n f
 
 -- the product of A, of l columns, and B, of l rows
 unfoldable pub schoolbook : ℕ → Matrix → Matrix → Matrix

@@ -3,14 +3,8 @@
 use Prim.Native.Nat.{ℕ, zero, suc, _+_, _-_, _*_, _/_, _^_, min}
 use mathlib.Core.List.{List, [], _∷_, _++_}
 use Rattle.cells.specs.Digit.{Matrix}
-use Rattle.cells.specs.Counts.{is}
-use Rattle.steps.specs.Matrix.{Row}
+use Rattle.cells.specs.Counts.{bitsOf}
 use Rattle.steps.specs.Step.{Step, tableStep, plus, minus}
-
--- the columns s, .. s + w - 1 of a row, with a bit for each d in them: bit 0 is column s
-unfoldable pub bitsOf : ℕ → Row → ℕ → ℕ → ℕ
-bitsOf d r s zero = 0
-bitsOf d r s (suc w) = is (r s) d + 2 * bitsOf d r (suc s) w
 
 -- in the block of the columns s, .. s + w - 1, row i of A has a bit in P for each 1, and in N for each 2
 abbrev pub P : Matrix → ℕ → ℕ → ℕ → ℕ

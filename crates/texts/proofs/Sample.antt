@@ -4,15 +4,15 @@ use mathlib.Core.List.{List, [], _∷_}
 use Prim.Native.Nat.{ℕ}
 use Rattle.cells.specs.Any.{any}
 use Rattle.cells.specs.Bit.{bit, wordOf}
-use Rattle.cells.specs.Counts.{is}
+use Rattle.cells.specs.Counts.{sum, is, bitsOf}
 use Rattle.cells.specs.Digit.{unitOf, signOf}
 use Rattle.buffers.specs.Buffer.{planes, wide, words, bitAt, unit, sign, cell, tab, joined, plane, encode}
 use Rattle.buffers.specs.Fault.{stray, padded}
 use Rattle.requests.specs.Answers.{first}
 use Rattle.requests.specs.Sizes.{over, faults}
-use Rattle.steps.specs.Matrix.{sum, schoolbook}
+use Rattle.steps.specs.Matrix.{schoolbook}
 use Rattle.steps.specs.Count.{total}
-use Rattle.steps.specs.StepList.{bitsOf, unless0, many, each, tableSteps, rowSteps, blockSteps, blocks, blockWidth, steps}
+use Rattle.steps.specs.StepList.{unless0, many, each, tableSteps, rowSteps, blockSteps, blocks, blockWidth, steps}
 use Rattle.matrix.specs.Job.{meant}
 use Rattle.frames.specs.Digit.{digitOf, byteOf, nibble}
 use Rattle.frames.specs.Line.{hexOf, valueOf, undigit, unframed}

@@ -5,28 +5,19 @@ use Prim.Native.Nat.{ℕ, _+_, _-_, _*_, _%_, _^_, _≤_, _<_, min}
 use native.Mathlib.Numerals.{add-one}
 use native.Mathlib.Omega.{arith}
 use lib.Pow.{pow-mono}
-use Rattle.cells.specs.Bit.{bit}
-use Rattle.cells.specs.Counts.{is}
+use Rattle.cells.specs.Counts.{sum, bitsOf}
 use Rattle.cells.specs.Digit.{Matrix}
-use Rattle.cells.proofs.WordLaws.{wordOf-lt, wordOf-bit}
 use Rattle.buffers.specs.Buffer.{planes, cell}
-use Rattle.rows.specs.Tally.{column}
-use Rattle.rows.specs.Block.{digitBits}
-use Rattle.rows.proofs.BlockLaws.{is-lt}
+use Rattle.rows.specs.Row.{column}
 use Rattle.rows.proofs.MatrixLaws.{column-cell}
-use Rattle.steps.specs.Matrix.{sum}
-use Rattle.steps.specs.StepList.{bitsOf, P, N, blocks, blockWidth}
+use Rattle.steps.specs.StepList.{P, N, blocks, blockWidth}
 use Rattle.steps.specs.Count.{total, rowCount, blockCount, countAt}
-use Rattle.steps.proofs.BlockBits.{bits-only}
 use Rattle.steps.proofs.Counts.{row-le, total-counts, total-small}
-use Rattle.steps.proofs.Sums.{sum-none, sum-last, sum-le, sum-mono, sum-same}
+use Rattle.cells.proofs.SumLaws.{sum-none, sum-last, sum-le, sum-mono, sum-same}
 
 -- the bits that are read of a row of a matrix are P and N
-pub bits-are : (d l i q s w : ℕ) (a : List ℕ) → q ≡ planes l → digitBits d a (i * (2 * q)) q s w ≡ bitsOf d (cell l a i) s w
-unfolding digitBits bit
-bits-are d l i q s w a e =
-    bits-only d (cell l a i) w s _ (wordOf-lt (λ t. is (column a (i * (2 * q)) q (s + t)) d) w (λ t. is-lt _ d))
-    (λ t h. wordOf-bit (λ t. is (column a (i * (2 * q)) q (s + t)) d) w t (λ t. is-lt _ d) h ∙ ap (λ (n : ℕ). is n d) (column-cell l i q (s + t) a e))
+pub bits-are : (d l i q s w : ℕ) (a : List ℕ) → q ≡ planes l → bitsOf d (column a (i * (2 * q)) q) s w ≡ bitsOf d (cell l a i) s w
+bits-are d l i q s w a e = ap (λ (row : ℕ → ℕ). bitsOf d row s w) (λ k j. column-cell l i q j a e k)
 
 pub count-none : (m : ℕ) (A : Matrix) (s w : ℕ) → 2 ^ w - 1 ≡ (2 ^ w - 1) + sum 0 0 (rowCount A s w)
 count-none m A s w = omega (arith, sum-none (rowCount A s w) 0)

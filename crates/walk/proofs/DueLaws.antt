@@ -9,7 +9,7 @@ use lib.Seq.{take-all, take-append-seam}
 use Rattle.steps.specs.Step.{Step, tableStep}
 use Rattle.steps.specs.StepList.{each, tableSteps}
 use Rattle.steps.proofs.Loops.{each-split, each-end, length-each}
-use Rattle.steps.proofs.Sums.{sum-same}
+use Rattle.cells.proofs.SumLaws.{sum-same}
 use Rattle.walk.specs.declared.Left.{Left}
 use Rattle.walk.specs.Due.{due, Spent}
 

@@ -3,7 +3,7 @@ ghost use mathlib.Core.Path.{_≡_};
 ghost use Prim.Native.Nat.{ℕ, _+_, _≤_, _<_};
 ghost use lib.ListN.{length};
 ghost use Rattle.buffers.specs.Buffer.{cell, Legal};
-ghost use Rattle.steps.specs.Matrix.{sum};
+ghost use Rattle.cells.specs.Counts.{sum};
 ghost use Rattle.steps.specs.StepList.{blocks, blockWidth};
 ghost use Rattle.steps.specs.Count.{total, countAt};
 use super::count::block_count;

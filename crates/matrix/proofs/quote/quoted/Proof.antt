@@ -2,7 +2,7 @@ use mathlib.Core.Path.{_≡_, sym, subst}
 use Prim.Native.Nat.{ℕ, _+_, _-_, _*_, _≤_}
 use native.Mathlib.Nat.{mul-le-mul}
 use lib.Pow.{pow-pos}
-use Rattle.steps.specs.Matrix.{sum}
+use Rattle.cells.specs.Counts.{sum}
 use Rattle.steps.proofs.Loops.{width-le}
 use Rattle.walk.proofs.CountLaws.{shift-one, pow-small}
 use Rattle.matrix.proofs.JobLaws.{quoteAt, quote-none, quote-more, quote-small, quote-all}

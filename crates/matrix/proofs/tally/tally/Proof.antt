@@ -7,9 +7,10 @@ use Rattle.buffers.proofs.BufferLaws.{legal-tests}
 use Rattle.requests.specs.Sizes.{faults}
 use Rattle.requests.proofs.SizeLaws.{over-columns, unfit-long}
 use Rattle.requests.proofs.AnswerLaws.{None, first-none, refused, finished}
+use Rattle.rows.specs.Tally.{tallyRow}
 use Rattle.matrix.specs.Check.{checkTests, checkMeans}
 use Rattle.matrix.specs.Tally.{tallyMeans}
-use Rattle.matrix.proofs.TallyLaws.{row-zero, tally-count}
+use Rattle.matrix.proofs.TallyLaws.{row-zero, tally-cells}
 use borrow.Author.Needs.{needs}
 use native.Mathlib.Omega.{arith}
 use Rattle.matrix.proofs.tally.tally.Statement.{statement}
@@ -44,9 +45,9 @@ array-read-balanced-2 : tie.Need-array-read-balanced-2
 array-read-balanced-2 c = search needs
 
 returns-2 : tie.Need-returns-2
-unfolding tallyMeans checkMeans
+unfolding tallyMeans checkMeans tallyRow
 returns-2 c =
-    let e = c .tally .ensures ∙ tally-count (c .before .before .before .before .before .before .args .columns) _ (c .before .before .before .before .before .before .args .a .now) (c .before .planes .ensures) in
+    let e = c .tally .ensures ∙ tally-cells (c .before .before .before .before .before .before .args .columns) _ (c .before .before .before .before .before .before .args .a .now) (c .before .planes .ensures) in
     finished _ _ _ _ (sym (c .before .before .before .before .check .ensures) ∙ sym (c .before .before .before .number .ensures) ∙ c .before .before .if1 .left) (ap (λ (l : List ℕ). (l, eqb (getD l 1 0) (getD l 2 0))) e)
 
 pub tally-spec : {M : Type 1} → statement M

@@ -1,7 +1,6 @@
 use Prim.Native.Nat.{_-_, _*_, _≤_, min}
 use Rattle.buffers.proofs.SizeLaws.{planes-le, planes-tight}
-use Rattle.rows.specs.Row.{Written}
-use Rattle.rows.specs.Tally.{column}
+use Rattle.rows.specs.Row.{column, Written}
 use Rattle.matrix.proofs.UnpackLaws.{row-none, row-more, row-all}
 use native.Mathlib.Omega.{arith}
 use Rattle.matrix.proofs.unpack.unpack_row.Statement.{statement}

@@ -4,6 +4,7 @@ use Prim.Native.Nat.{ℕ, _-_, _*_, _≤_, min}
 use lib.ListN.{getD}
 use Rattle.cells.proofs.CountLaws.{count-le}
 use Rattle.buffers.proofs.SizeLaws.{planes-tight}
+use Rattle.rows.specs.Row.{column}
 use Rattle.rows.specs.Tally.{columnsWith, tallyRow}
 use Rattle.rows.proofs.RowLaws.{load-legal}
 use Rattle.rows.proofs.TallyLaws.{tally-none, tally-more, tally-all, columns-le}
@@ -13,7 +14,7 @@ use Rattle.rows.proofs.tally.tally.Statement.{statement}
 use Rattle.rows.proofs.tally.tally.Tie as tie
 
 abbrev Inv-loop : tie.InvT-loop
-Inv-loop a q c x zeros₀ ones₀ twos₀ p₀ zeros ones twos p = (p ≤ q) × (zeros ≡ columnsWith 0 a x q (min c (64 * p))) × (ones ≡ columnsWith 1 a x q (min c (64 * p))) × (twos ≡ columnsWith 2 a x q (min c (64 * p)))
+Inv-loop a q c x zeros₀ ones₀ twos₀ p₀ zeros ones twos p = (p ≤ q) × (zeros ≡ columnsWith 0 (column a x q) (min c (64 * p))) × (ones ≡ columnsWith 1 (column a x q) (min c (64 * p))) × (twos ≡ columnsWith 2 (column a x q) (min c (64 * p)))
 
 abbrev μ-loop : tie.MeasureT-loop
 μ-loop a q c x zeros₀ ones₀ twos₀ p₀ zeros ones twos p = q - p
@@ -40,19 +41,19 @@ array-read-zeros : tie.Need-array-read-zeros Inv-loop μ-loop
 array-read-zeros c = search needs
 
 add-zeros : tie.Need-add-zeros Inv-loop μ-loop
-add-zeros c = omega (arith, (ap (λ (l : List ℕ). getD l 0 0) (c .counts .ensures)), count-le 0 (c .before .load .result .unit) (c .before .load .result .sign) (c .before .before .low .result), columns-le 0 (c .before .before .before .before .before .before .before .args .a .now) (c .before .before .before .before .before .before .before .args .x) (c .before .before .before .before .before .before .before .args .q) (min (c .before .before .before .before .before .before .before .args .c) (64 * c .before .before .before .before .before .loop .p)), c .before .before .before .before .before .loop .inv .1, c .before .before .before .before .before .before .before .pre .1)
+add-zeros c = omega (arith, (ap (λ (l : List ℕ). getD l 0 0) (c .counts .ensures)), count-le 0 (c .before .load .result .unit) (c .before .load .result .sign) (c .before .before .low .result), columns-le 0 (column (c .before .before .before .before .before .before .before .args .a .now) (c .before .before .before .before .before .before .before .args .x) (c .before .before .before .before .before .before .before .args .q)) (min (c .before .before .before .before .before .before .before .args .c) (64 * c .before .before .before .before .before .loop .p)), c .before .before .before .before .before .loop .inv .1, c .before .before .before .before .before .before .before .pre .1)
 
 array-read-ones : tie.Need-array-read-ones Inv-loop μ-loop
 array-read-ones c = search needs
 
 add-ones : tie.Need-add-ones Inv-loop μ-loop
-add-ones c = omega (arith, (ap (λ (l : List ℕ). getD l 1 0) (c .counts .ensures)), count-le 1 (c .before .load .result .unit) (c .before .load .result .sign) (c .before .before .low .result), columns-le 1 (c .before .before .before .before .before .before .before .args .a .now) (c .before .before .before .before .before .before .before .args .x) (c .before .before .before .before .before .before .before .args .q) (min (c .before .before .before .before .before .before .before .args .c) (64 * c .before .before .before .before .before .loop .p)), c .before .before .before .before .before .loop .inv .2, c .before .before .before .before .before .before .before .pre .1)
+add-ones c = omega (arith, (ap (λ (l : List ℕ). getD l 1 0) (c .counts .ensures)), count-le 1 (c .before .load .result .unit) (c .before .load .result .sign) (c .before .before .low .result), columns-le 1 (column (c .before .before .before .before .before .before .before .args .a .now) (c .before .before .before .before .before .before .before .args .x) (c .before .before .before .before .before .before .before .args .q)) (min (c .before .before .before .before .before .before .before .args .c) (64 * c .before .before .before .before .before .loop .p)), c .before .before .before .before .before .loop .inv .2, c .before .before .before .before .before .before .before .pre .1)
 
 array-read-twos : tie.Need-array-read-twos Inv-loop μ-loop
 array-read-twos c = search needs
 
 add-twos : tie.Need-add-twos Inv-loop μ-loop
-add-twos c = omega (arith, (ap (λ (l : List ℕ). getD l 2 0) (c .counts .ensures)), count-le 2 (c .before .load .result .unit) (c .before .load .result .sign) (c .before .before .low .result), columns-le 2 (c .before .before .before .before .before .before .before .args .a .now) (c .before .before .before .before .before .before .before .args .x) (c .before .before .before .before .before .before .before .args .q) (min (c .before .before .before .before .before .before .before .args .c) (64 * c .before .before .before .before .before .loop .p)), c .before .before .before .before .before .loop .inv .3, c .before .before .before .before .before .before .before .pre .1)
+add-twos c = omega (arith, (ap (λ (l : List ℕ). getD l 2 0) (c .counts .ensures)), count-le 2 (c .before .load .result .unit) (c .before .load .result .sign) (c .before .before .low .result), columns-le 2 (column (c .before .before .before .before .before .before .before .args .a .now) (c .before .before .before .before .before .before .before .args .x) (c .before .before .before .before .before .before .before .args .q)) (min (c .before .before .before .before .before .before .before .args .c) (64 * c .before .before .before .before .before .loop .p)), c .before .before .before .before .before .loop .inv .3, c .before .before .before .before .before .before .before .pre .1)
 
 add-p : tie.Need-add-p Inv-loop μ-loop
 add-p c = omega arith

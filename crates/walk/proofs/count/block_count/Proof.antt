@@ -2,7 +2,7 @@ use mathlib.Core.Path.{_≡_, ap, _∙_}
 use Prim.Native.Nat.{ℕ, _+_, _-_, _^_, _≤_, min}
 use lib.Pow.{pow-pos}
 use Rattle.buffers.specs.Buffer.{cell}
-use Rattle.steps.specs.Matrix.{sum}
+use Rattle.cells.specs.Counts.{sum}
 use Rattle.steps.specs.Count.{rowCount}
 use Rattle.walk.proofs.CountLaws.{shift-one, count-none, count-more, count-all, count-small}
 use borrow.Author.Needs.{needs}

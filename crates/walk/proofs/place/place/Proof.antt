@@ -1,10 +1,10 @@
 use mathlib.Core.Path.{_≡_, sym}
 use Prim.Native.Nat.{_+_, _-_, _≤_}
 use Rattle.buffers.specs.Buffer.{cell}
-use Rattle.steps.specs.Matrix.{sum}
+use Rattle.cells.specs.Counts.{sum}
 use Rattle.steps.specs.Count.{countAt}
 use Rattle.steps.proofs.Loops.{blocks-within, width-pos, width-le, width-within}
-use Rattle.steps.proofs.Sums.{sum-none}
+use Rattle.cells.proofs.SumLaws.{sum-none}
 use Rattle.walk.proofs.CountLaws.{place-more, place-small, place-all}
 use native.Mathlib.Omega.{arith}
 use Rattle.walk.proofs.place.place.Statement.{statement}

@@ -1,9 +1,9 @@
--- Finite sums, and digits of the field of three. Assumes nothing.
-use Prim.Native.Nat.{ℕ, zero, suc, _+_, _-_, _*_, _%_, _≤_, _<_}
-use mathlib.Core.Path.{_≡_, refl}
+-- Finite sums. Assumes nothing.
+use Prim.Native.Nat.{ℕ, zero, suc, _+_, _-_, _*_, _≤_, _<_}
+use mathlib.Core.Path.{_≡_, refl, sym, ap, _∙_}
 use native.Mathlib.Omega.{arith}
-use native.Mathlib.Nat.{le-refl, zero-add, add-zero, suc-add, add-suc, add-mul-mod-self-right}
-use Rattle.steps.specs.Matrix.{sum, schoolbook}
+use native.Mathlib.Nat.{le-refl, zero-add, add-zero, suc-add, add-suc}
+use Rattle.cells.specs.Counts.{sum}
 
 pub sum-add : (f : ℕ → ℕ) (a b s : ℕ) → sum s (a + b) f ≡ sum s a f + sum (s + a) b f
 unfolding sum
@@ -45,8 +45,11 @@ unfolding sum
 sum-ext f g zero s h = refl
 sum-ext f g (suc n) s h = omega (arith, h s (omega arith) (omega arith), sum-ext f g n (suc s) (λ i a b. h i (omega arith) (omega arith)))
 
--- two numbers that differ by a multiple of 3 have one digit
-pub congruent : (x y q : ℕ) → y ≡ x + q * 3 → x % 3 ≡ y % 3
-congruent x y q e = rw (e, add-mul-mod-self-right)
+-- a sum from a on, as one from 0 on
+sum-shift : (f : ℕ → ℕ) (a n s : ℕ) → sum (a + s) n f ≡ sum s n (λ t. f (a + t))
+unfolding sum
+sum-shift f a zero s = refl
+sum-shift f a (suc n) s = omega (arith, rw add-suc at (sum-shift f a n (suc s)))
 
--- ---- the schoolbook product
+pub sum-from : (f : ℕ → ℕ) (a n : ℕ) → sum a n f ≡ sum 0 n (λ t. f (a + t))
+sum-from f a n = ap (λ (s : ℕ). sum s n f) (sym (add-zero a)) ∙ sum-shift f a n 0
