@@ -240,18 +240,15 @@ turn-same job k a b t p z =
     (wordTests job (wordsIn a) (wordsIn b) (wordsIn t) (wordsIn p))
     (h .1 .0, (h .1 .1 .1 .0, (rw (fits-in (sizeA job) a (turn-fit-a job k a b (length t) (length p) z), fits-in (sizeB job) b (turn-fit-b job k a b (length t) (length p) z), fits-in (tableSize (sizeB job) (job .width)) t (turn-fit-table job k a b (length t) (length p) z)) (fits-in (productSize (sizeA job) (sizeB job)) p (turn-fit-product job k a b (length t) (length p) z)), tt)))
 
-pub carry : Job × (ℕ × (Bool × (List ℕ × List ℕ))) → List ℕ × (List ℕ × List ℕ)
-carry o = (bytesOf (recordOf (o .0) (o .1 .0) (o .1 .1 .0)), (bytesOf (o .1 .1 .1 .0), bytesOf (o .1 .1 .1 .1)))
-
 pub turn-carried : (found : Job) (job a b table product u v t p t′ p′ : List ℕ) (budget : ℕ) (next : Job) (made : ℕ) (ended : Bool) (f n : ℕ) → found ≡ jobIn (wordsIn job)
     → first (turnSizes found (length job) (length a) (length b) (length table) (length product)) ≡ 0 → u ≡ wordsIn a → v ≡ wordsIn b → t ≡ wordsIn table → p ≡ wordsIn product → f ≡ n
     → (n, (next, (made, (ended, (t′, p′))))) ≡ turnMeans found u v t p budget
     → _≡_ {A = ℕ × (List ℕ × (List ℕ × List ℕ))} (f, left f (job, (table, product)) (bytesOf (recordOf next made ended), (bytesOf t′, bytesOf p′))) (turnFace job a b table product budget)
-unfolding turnMeans turnFace turnFaceTests turned carry
+unfolding turnMeans turnFace turnFaceTests turned
 turn-carried found job a b table product u v t p t′ p′ budget next made ended f n ej z eu ev et ep e says =
     let y : first (turnSizes (jobIn (wordsIn job)) (length job) (length a) (length b) (length table) (length product)) ≡ 0 = rw ej at z in
-    carried {S = Job × (ℕ × (Bool × (List ℕ × List ℕ)))} {R = List ℕ × (List ℕ × List ℕ)} carry (turnTests (jobIn (wordsIn job)) (wordsIn a) (wordsIn b) (wordsIn table) (wordsIn product)) _ _ _ (next, (made, (ended, (t′, p′)))) (job, (table, product)) _ f n e (rw (ej, eu, ev, et, ep) at says)
-    (turn-same (jobIn (wordsIn job)) (length job) a b table product y ∙ sym (past-none (turnSizes (jobIn (wordsIn job)) (length job) (length a) (length b) (length table) (length product)) _ (turn-none (jobIn (wordsIn job)) (length job) a b (length table) (length product) y))) (λ _ m. ap carry m)
+    carried {S = Job × (ℕ × (Bool × (List ℕ × List ℕ)))} {R = List ℕ × (List ℕ × List ℕ)} turned (turnTests (jobIn (wordsIn job)) (wordsIn a) (wordsIn b) (wordsIn table) (wordsIn product)) _ _ _ (next, (made, (ended, (t′, p′)))) (job, (table, product)) _ f n e (rw (ej, eu, ev, et, ep) at says)
+    (turn-same (jobIn (wordsIn job)) (length job) a b table product y ∙ sym (past-none (turnSizes (jobIn (wordsIn job)) (length job) (length a) (length b) (length table) (length product)) _ (turn-none (jobIn (wordsIn job)) (length job) a b (length table) (length product) y))) (λ _ m. ap turned m)
 
 -- a record of another length
 pub turn-length : (job a b table product : List ℕ) (budget f : ℕ) → f ≡ 4 → (length job ≡ 56 → ⊥) → _≡_ {A = ℕ × (List ℕ × (List ℕ × List ℕ))} (f, (job, (table, product))) (turnFace job a b table product budget)

@@ -12,6 +12,7 @@ use Rattle.requests.proofs.AnswerLaws.{None, Gives, given, gives, first-none, n
 use Rattle.steps.specs.Matrix.{schoolbook}
 use Rattle.matrix.specs.Job.{meant}
 use Rattle.matrix.specs.Opening.{newJob}
+use Rattle.matrix.specs.Turn.{turnedOf}
 use Rattle.matrix.specs.Sum.{sumOf}
 use Rattle.matrix.specs.Difference.{differenceOf}
 use Rattle.matrix.specs.Negation.{negationOf}
@@ -63,6 +64,6 @@ unfolding openFace openFaceTests openSizes faults
 open-exact x y w job a b t p r o says = exact (openFaceTests x y w (length job) a b (length t) (length p)) _ _ r o tt says
 
 pub turn-exact : (job a b t p : List ℕ) (budget : ℕ) (r : ℕ) (o : List ℕ × (List ℕ × List ℕ)) → (r, o) ≡ turnFace job a b t p budget
-    → Exact {S = List ℕ × (List ℕ × List ℕ)} (turnFaceTests job a b t p) (job, (t, p)) (turned (jobIn (wordsIn job)) (wordsIn a) (wordsIn b) (wordsIn t) (wordsIn p) budget) r o
+    → Exact {S = List ℕ × (List ℕ × List ℕ)} (turnFaceTests job a b t p) (job, (t, p)) (turned (turnedOf (jobIn (wordsIn job)) (wordsIn a) (wordsIn b) (wordsIn t) (wordsIn p) budget)) r o
 unfolding turnFace turnFaceTests turnSizes wordTests faults
 turn-exact job a b t p budget r o says = exact (turnFaceTests job a b t p) _ _ r o tt says

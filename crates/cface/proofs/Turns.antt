@@ -20,8 +20,9 @@ use Rattle.steps.specs.Matrix.{schoolbook}
 use Rattle.steps.specs.Step.{State, run, opening}
 use Rattle.steps.specs.StepList.{steps}
 use Rattle.steps.specs.Count.{total}
-use Rattle.steps.specs.Turn.{after, allBudgets}
+use Rattle.steps.specs.Turn.{after, made, allBudgets}
 use Rattle.steps.proofs.Counts.{total-small}
+use Rattle.steps.proofs.Turns.{made-done, min-more}
 use Rattle.matrix.specs.declared.job.Job.{Job}
 use Rattle.matrix.specs.Job.{meant, tableSize, productSize, totalOf}
 use Rattle.matrix.specs.Opening.{newJob}
@@ -114,8 +115,12 @@ module _ (x y : Size) (w : ℕ) (a b : List ℕ) (hm : x .rows ≤ 64) (hl : x .
   long-small : long < 2 ^ 32
   long-small = total-small (x .rows) (x .columns) (meant w) (cell (x .columns) (wordsIn a)) im il (meant-pos w) (meant-le w hw)
 
+  -- the steps that a turn makes after d of them, and where it stands then
   abbrev makes : ℕ → ℕ → ℕ
-  makes d budget = min budget (long - d)
+  makes d budget = made (steps (x .rows) (x .columns) (meant w) (cell (x .columns) (wordsIn a))) d budget
+
+  abbrev next : ℕ → ℕ → ℕ
+  next d budget = min (d + budget) long
 
   words-at : (d made : ℕ) (ended : Bool) → d ≤ long → made < 2 ^ 64 → wordsIn (recordAt d made ended) ≡ recordOf (jobAt d) made ended
   words-at d made ended h small-made =
@@ -175,7 +180,7 @@ module _ (x y : Size) (w : ℕ) (a b : List ℕ) (hm : x .rows ≤ 64) (hl : x .
   -- a turn of a job that stands at d is accepted; the record says the steps made and whether the list has ended
   pub turn-stands : (d budget made : ℕ) (ended : Bool) → d ≤ long → made < 2 ^ 64
       → turnFace (recordAt d made ended) a b (tableAt d) (productAt d) budget
-      ≡ (0, (recordAt (d + makes d budget) (makes d budget) (eqb (d + makes d budget) long), (tableAt (d + makes d budget), productAt (d + makes d budget))))
+      ≡ (0, (recordAt (next d budget) (makes d budget) (eqb (next d budget) long), (tableAt (next d budget), productAt (next d budget))))
   unfolding left
   turn-stands d budget made ended h small-made =
       sym (turn-carried (jobAt d) (recordAt d made ended) a b (tableAt d) (productAt d) (wordsIn a) (wordsIn b) (encode (2 ^ meant w) (y .columns) (at d .table)) (encode (x .rows) (y .columns) (at d .product)) _ _ budget _ _ _ 0 0
@@ -198,7 +203,7 @@ module _ (x y : Size) (w : ℕ) (a b : List ℕ) (hm : x .rows ≤ 64) (hl : x .
   meaning d budget job t p S = rw (S .record-is, S .table-is, S .product-is)
 
   next-stands : (d budget : ℕ) (job t p : List ℕ) → d ≤ long → Stands d job t p
-      → turnFace job a b t p budget ≡ (0, (recordAt (d + makes d budget) (makes d budget) (eqb (d + makes d budget) long), (tableAt (d + makes d budget), productAt (d + makes d budget))))
+      → turnFace job a b t p budget ≡ (0, (recordAt (next d budget) (makes d budget) (eqb (next d budget) long), (tableAt (next d budget), productAt (next d budget))))
   next-stands d budget job t p h S = meaning d budget job t p S ∙ turn-stands d budget (S .made) (S .ended) h (S .made-fits)
 
   pub accepted : (d budget : ℕ) (job t p : List ℕ) → d ≤ long → Stands d job t p → turnFace job a b t p budget .0 ≡ 0
@@ -206,31 +211,26 @@ module _ (x y : Size) (w : ℕ) (a b : List ℕ) (hm : x .rows ≤ 64) (hl : x .
   accepted d budget job t p h S = ap (λ (o : Outcome). o .0) (next-stands d budget job t p h S)
 
   one-turn : (d budget : ℕ) (job t p job₁ t₁ p₁ : List ℕ) → d ≤ long → Stands d job t p → _≡_ {A = ℕ × (List ℕ × (List ℕ × List ℕ))} (0, (job₁, (t₁, p₁))) (turnFace job a b t p budget)
-      → Stands (min (d + budget) long) job₁ t₁ p₁
-  unfolding Outcome
+      → Stands (next d budget) job₁ t₁ p₁
+  unfolding Outcome made total
   one-turn d budget job t p job₁ t₁ p₁ h S says =
       let e = says ∙ next-stands d budget job t p h S in
-      let next : d + makes d budget ≡ min (d + budget) long = omega arith in
-      subst (λ (j : ℕ). Stands j job₁ t₁ p₁) next
-      (record {
+      record {
         made = makes d budget;
-        ended = eqb (d + makes d budget) long;
+        ended = eqb (next d budget) long;
         made-fits = omega (arith, long-small);
         record-is = ap (λ (o : Outcome). o .1 .0) e;
         table-is = ap (λ (o : Outcome). o .1 .1 .0) e;
         product-is = ap (λ (o : Outcome). o .1 .1 .1) e;
-      })
-
-  sum-min : (d b c e : ℕ) → min (min (d + b) e + c) e ≡ min (d + (b + c)) e
-  sum-min d b c e = omega arith
+      }
 
   pub turns-stand : (budgets : List ℕ) (d : ℕ) (job t p job₁ t₁ p₁ : List ℕ) → d ≤ long → Stands d job t p → Turns a b job t p budgets job₁ t₁ p₁
       → Stands (min (d + allBudgets budgets) long) job₁ t₁ p₁
   unfolding allBudgets
   turns-stand [] d job t p job₁ t₁ p₁ h S none = let e : min (d + 0) long ≡ d = omega arith in rw e S
   turns-stand (budget ∷ budgets) d job t p job₁ t₁ p₁ h S (more _ says rest) =
-      subst (λ (j : ℕ). Stands j job₁ t₁ p₁) (sum-min d budget (allBudgets budgets) long)
-      (turns-stand budgets (min (d + budget) long) _ _ _ job₁ t₁ p₁ (omega arith) (one-turn d budget job t p _ _ _ h S says) rest)
+      subst (λ (j : ℕ). Stands j job₁ t₁ p₁) (min-more d budget (allBudgets budgets) long)
+      (turns-stand budgets (next d budget) _ _ _ job₁ t₁ p₁ (omega arith) (one-turn d budget job t p _ _ _ h S says) rest)
 
   -- the end: the schoolbook product, for every width
   pub end-stands : (d : ℕ) → long ≤ d → productAt d ≡ bytesOf (encode (x .rows) (y .columns) (schoolbook (x .columns) (cell (x .columns) (wordsIn a)) (cell (y .columns) (wordsIn b))))
@@ -242,13 +242,13 @@ module _ (x y : Size) (w : ℕ) (job a b t p job₀ t₀ p₀ : List ℕ) (opene
   abbrev new : List ℕ × (List ℕ × List ℕ)
   new = (bytesOf (recordOf (newJob x y w) 0 false), (bytesOf (encode (2 ^ meant w) (y .columns) (λ i j. 0)), bytesOf (encode (x .rows) (y .columns) (λ i j. 0))))
 
-  made : (first (openFaceTests x y w (length job) a b (length t) (length p)) ≡ 0) × (_≡_ {A = List ℕ × (List ℕ × List ℕ)} (job₀, (t₀, p₀)) new)
+  as-new : (first (openFaceTests x y w (length job) a b (length t) (length p)) ≡ 0) × (_≡_ {A = List ℕ × (List ℕ × List ℕ)} (job₀, (t₀, p₀)) new)
   unfolding openFace
-  made = done-makes (openFaceTests x y w (length job) a b (length t) (length p)) _ new (job₀, (t₀, p₀)) opened
+  as-new = done-makes (openFaceTests x y w (length job) a b (length t) (length p)) _ new (job₀, (t₀, p₀)) opened
 
   sizes : first (openSizes x y w (length job) (length a) (length b) (length t) (length p)) ≡ 0
   unfolding openFaceTests openSizes
-  sizes = append-front (openSizes x y w (length job) (length a) (length b) (length t) (length p)) _ tt (made .0)
+  sizes = append-front (openSizes x y w (length job) (length a) (length b) (length t) (length p)) _ tt (as-new .0)
 
   pub F : Fits x y w (length job) a b (length t) (length p)
   F = open-fits x y w (length job) a b (length t) (length p) sizes
@@ -257,7 +257,7 @@ module _ (x y : Size) (w : ℕ) (job a b t p job₀ t₀ p₀ : List ℕ) (opene
   pub facts : Fitting x y w (wordsIn a) (wordsIn b) (length t / 8) (length p / 8)
   facts =
       fitting-ready x y w (wordsIn a) (wordsIn b) (length t / 8) (length p / 8)
-      (sym (opening-first x y w (wordsIn a) (wordsIn b) (length t / 8) (length p / 8)) ∙ open-same x y w (length job) a b (length t) (length p) sizes (length t / 8) (length p / 8) (F .table) (F .product) ∙ made .0)
+      (sym (opening-first x y w (wordsIn a) (wordsIn b) (length t / 8) (length p / 8)) ∙ open-same x y w (length job) a b (length t) (length p) sizes (length t / 8) (length p / 8) (F .table) (F .product) ∙ as-new .0)
 
   abbrev Standing : ℕ → List ℕ → List ℕ → List ℕ → Type 0
   Standing = Stands x y w a b (F .m) (F .l) (F .n) (F .narrow) (F .bytes-a) (F .bytes-b) (facts .left) (facts .right)
@@ -268,9 +268,9 @@ module _ (x y : Size) (w : ℕ) (job a b t p job₀ t₀ p₀ : List ℕ) (opene
     made = 0;
     ended = false;
     made-fits = omega arith;
-    record-is = ap (λ (o : List ℕ × (List ℕ × List ℕ)). o .0) (made .1);
-    table-is = ap (λ (o : List ℕ × (List ℕ × List ℕ)). o .1 .0) (made .1);
-    product-is = ap (λ (o : List ℕ × (List ℕ × List ℕ)). o .1 .1) (made .1);
+    record-is = ap (λ (o : List ℕ × (List ℕ × List ℕ)). o .0) (as-new .1);
+    table-is = ap (λ (o : List ℕ × (List ℕ × List ℕ)). o .1 .0) (as-new .1);
+    product-is = ap (λ (o : List ℕ × (List ℕ × List ℕ)). o .1 .1) (as-new .1);
   }
 
   module _ (budgets : List ℕ) (job₁ t₁ p₁ : List ℕ) (given : Turns a b job₀ t₀ p₀ budgets job₁ t₁ p₁) where
@@ -299,11 +299,13 @@ module _ (x y : Size) (w : ℕ) (job a b t p job₀ t₀ p₀ : List ℕ) (opene
         ∙ words-at x y w a b (F .m) (F .l) (F .n) (F .narrow) (F .bytes-a) (F .bytes-b) (facts .left) (facts .right) reached (demand-3 .made) (demand-3 .ended) (omega arith) (demand-3 .made-fits)
 
     abbrev makes-next : ℕ → ℕ
-    makes-next budget = min budget (totalOf x (meant w) (wordsIn a) - reached)
+    makes-next budget = made (steps (x .rows) (x .columns) (meant w) (cell (x .columns) (wordsIn a))) reached budget
 
     -- one turn more: the last two words say the steps that it made, and whether the list has ended
     pub demand-3-last : (budget : ℕ) → turnFace job₁ a b t₁ p₁ budget .1 .0
         ≡ bytesOf (recordOf (record { m = x .rows; l = x .columns; n = y .columns; width = meant w; done = reached + makes-next budget }) (makes-next budget) (eqb (reached + makes-next budget) (totalOf x (meant w) (wordsIn a))))
+    unfolding total
     demand-3-last budget =
-        ap (λ (o : ℕ × (List ℕ × (List ℕ × List ℕ))). o .1 .0)
-        (next-stands x y w a b (F .m) (F .l) (F .n) (F .narrow) (F .bytes-a) (F .bytes-b) (facts .left) (facts .right) reached budget job₁ t₁ p₁ (omega arith) demand-3)
+        rw (made-done (steps (x .rows) (x .columns) (meant w) (cell (x .columns) (wordsIn a))) reached budget (omega arith))
+        (ap (λ (o : ℕ × (List ℕ × (List ℕ × List ℕ))). o .1 .0)
+        (next-stands x y w a b (F .m) (F .l) (F .n) (F .narrow) (F .bytes-a) (F .bytes-b) (facts .left) (facts .right) reached budget job₁ t₁ p₁ (omega arith) demand-3))

@@ -3,7 +3,7 @@
 use mathlib.Core.Path.{_≡_, sym, _∙_}
 use mathlib.Core.Bool.{Bool, false}
 use mathlib.Core.List.{List, [], _∷_}
-use Prim.Native.Nat.{ℕ, _+_, _^_}
+use Prim.Native.Nat.{ℕ, _^_}
 use lib.Dec.{eqb}
 use lib.ListN.{length}
 use Rattle.buffers.specs.Buffer.{encode}
@@ -28,7 +28,7 @@ use Rattle.matrix.specs.Job.{meant, totalOf}
 use Rattle.matrix.specs.Quote.{quoteTests, quoteMeans}
 use Rattle.matrix.specs.Total.{factorTests, totalTests, totalMeans}
 use Rattle.matrix.specs.Opening.{fittingTests, openingTests, noJob, newJob, openingMeans}
-use Rattle.matrix.specs.Turn.{sizeA, foundTests, turnTests, madeOf, leftOf, onJob, turnMeans}
+use Rattle.matrix.specs.Turn.{foundTests, turnTests, turnedOf, turnMeans}
 use Rattle.matrix.specs.Product.{endOf, productMeans}
 use Rattle.steps.specs.Count.{quote}
 use Rattle.requests.proofs.AnswerLaws.{None, Gives, given, gives, first-none, none-first, Exact, exact}
@@ -93,10 +93,7 @@ unfolding openingMeans openingTests fittingTests faults
 opening-exact x y w a b t p r o says = exact (openingTests x y w a b (length t) (length p)) _ _ (number r) o tt says
 
 pub turn-exact : (job : Job) (a b t p : List ℕ) (budget : ℕ) (r : Answer) (o : Job × (ℕ × (Bool × (List ℕ × List ℕ)))) → (number r, o) ≡ turnMeans job a b t p budget
-    → Exact {S = Job × (ℕ × (Bool × (List ℕ × List ℕ)))} (turnTests job a b t p) (job, (0, (false, (t, p)))) (
-      onJob job (madeOf job a budget),
-      (madeOf job a budget, (eqb (job .done + madeOf job a budget) (totalOf (sizeA job) (job .width) a), (encode (2 ^ job .width) (job .n) (leftOf job a b t p budget .table), encode (job .m) (job .n) (leftOf job a b t p budget .product)))),
-    ) (number r) o
+    → Exact {S = Job × (ℕ × (Bool × (List ℕ × List ℕ)))} (turnTests job a b t p) (job, (0, (false, (t, p)))) (turnedOf job a b t p budget) (number r) o
 unfolding turnMeans turnTests foundTests faults
 turn-exact job a b t p budget r o says = exact (turnTests job a b t p) _ _ (number r) o tt says
 

@@ -22,13 +22,13 @@ use Rattle.steps.specs.Matrix.{sum}
 use Rattle.steps.specs.Step.{lowestBit, cleared, put, apply, run, opening}
 use Rattle.steps.specs.StepList.{bitsOf, unless0, many, each, tableSteps, rowSteps, blockSteps, blocks, blockWidth, steps}
 use Rattle.steps.specs.Count.{quote, total}
-use Rattle.walk.specs.Due.{due}
+use Rattle.steps.specs.Turn.{due, made, turn}
 use Rattle.walk.specs.Ran.{found}
 use Rattle.matrix.specs.declared.job.Job.{Job}
 use Rattle.matrix.specs.Job.{meant, misfit}
 use Rattle.matrix.specs.Quote.{quoteTests, quoteMeans}
 use Rattle.matrix.specs.Total.{factorTests, totalTests, totalMeans}
-use Rattle.matrix.specs.Turn.{foundTests, turnTests, madeOf, leftOf, turnMeans}
+use Rattle.matrix.specs.Turn.{foundTests, turnTests, turnedOf, turnMeans}
 
 abbrev one : Size
 one = record { rows = 1; columns = 1 }
@@ -74,7 +74,7 @@ pub record Sums : Type 0 where
   pub quoted : quoteMeans one 1 ≡ (0, 2)
 
 pub sums : Sums
-unfolding turnMeans turnTests foundTests madeOf leftOf totalMeans totalTests factorTests quoteMeans quoteTests quote total sum meant misfit due found steps blocks blockWidth blockSteps rowSteps tableSteps each many unless0 bitsOf lowestBit cleared put apply run opening answered first left over unfit faults stray padded any unit sign cell bitAt bit planes wide words encode joined plane tab wordOf unitOf signOf add3 sub3 is trailingZeros
+unfolding turnMeans turnTests foundTests turnedOf turn made totalMeans totalTests factorTests quoteMeans quoteTests quote total sum meant misfit due found steps blocks blockWidth blockSteps rowSteps tableSteps each many unless0 bitsOf lowestBit cleared put apply run opening answered first left over unfit faults stray padded any unit sign cell bitAt bit planes wide words encode joined plane tab wordOf unitOf signOf add3 sub3 is trailingZeros
 sums = record { first-step = refl; second-step = refl; both-steps = refl; totals = (refl, refl); quoted = refl }
 
 -- ---- turns

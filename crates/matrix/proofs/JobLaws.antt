@@ -21,21 +21,21 @@ use Rattle.requests.proofs.SizeLaws.{over-rows, over-columns, unfit-long}
 use Rattle.requests.proofs.AnswerLaws.{positive, None, first-none, append-given, append-none, later}
 use Rattle.rows.specs.Row.{Written}
 use Rattle.steps.specs.Matrix.{sum}
-use Rattle.steps.specs.Step.{Step, State, run, opening}
-use Rattle.steps.specs.StepList.{blocks, blockWidth, steps}
-use Rattle.steps.specs.Count.{quote}
+use Rattle.steps.specs.Step.{Step, run, opening}
+use Rattle.steps.specs.StepList.{blocks, blockWidth}
+use Rattle.steps.specs.Count.{quote, total}
+use Rattle.steps.specs.Turn.{due, made, turn}
 use Rattle.steps.proofs.Fits.{AllFit}
 use Rattle.steps.proofs.Counts.{quote-le, total-small}
 use Rattle.steps.proofs.Sums.{sum-none, sum-last, sum-mono}
 use Rattle.steps.proofs.Same.{SameState, run-same}
-use Rattle.walk.specs.Due.{due}
 use Rattle.walk.specs.Ran.{found, Ran}
 use Rattle.walk.proofs.CountLaws.{pow-small}
 use Rattle.matrix.specs.declared.job.Job.{Job}
 use Rattle.matrix.specs.Job.{meant, tableSize, productSize, misfit, totalOf, countless}
 use Rattle.matrix.specs.Total.{factorTests}
 use Rattle.matrix.specs.Opening.{fittingTests, openingTests}
-use Rattle.matrix.specs.Turn.{sizeA, sizeB, foundTests, madeOf, leftOf, onJob}
+use Rattle.matrix.specs.Turn.{sizeA, sizeB, foundTests, stepsOf, madeOf, onJob, turnedOf}
 
 pub meant-pos : (w : ℕ) → 0 < meant w
 unfolding meant
@@ -248,29 +248,11 @@ quote-all m l k b n eb en = rw eb at en
 
 -- ---- what a turn answers where it is done
 
-module _ (job : Job) (a b t p t′ p′ : List ℕ) (budget n count : ℕ) where
-  abbrev Outcome : Type 0
-  Outcome = Job × (ℕ × (Bool × (List ℕ × List ℕ)))
-
-  ends : ℕ → State
-  ends n = run (cell (job .n) b) (due (job .done) n (steps (job .m) (job .l) (job .width) (cell (job .l) a))) (found (job .n) t p)
-
-  outcome : ℕ → ℕ → Outcome
-  outcome n count = (onJob job n, (n, (eqb (job .done + n) count, (encode (2 ^ job .width) (job .n) (ends n .table), encode (job .m) (job .n) (ends n .product)))))
-
-  pub turn-done : n ≡ min budget (count - job .done) → count ≡ totalOf (sizeA job) (job .width) a
-      → Ran (job .width) (job .m) (job .n) (cell (job .n) b) (due (job .done) n (steps (job .m) (job .l) (job .width) (cell (job .l) a))) t p t′ p′
-      → _≡_ {A = Outcome} (onJob job n, (n, (eqb (job .done + n) count, (t′, p′)))) (
-        onJob job (madeOf job a budget),
-        (
-          madeOf job a budget,
-          (
-            eqb (job .done + madeOf job a budget) (totalOf (sizeA job) (job .width) a),
-            (encode (2 ^ job .width) (job .n) (leftOf job a b t p budget .table), encode (job .m) (job .n) (leftOf job a b t p budget .product)),
-          ),
-        ),
-      )
-  unfolding leftOf madeOf outcome ends
-  turn-done en ec R =
-      ap₂ (λ (t p : List ℕ). (onJob job n, (n, (eqb (job .done + n) count, (t, p))))) (R .table) (R .product)
-      ∙ ap₂ outcome (en ∙ ap (λ (c : ℕ). min budget (c - job .done)) ec) ec
+pub turn-done : (job : Job) (a b t p t′ p′ : List ℕ) (budget n count : ℕ) → n ≡ min budget (count - job .done) → count ≡ totalOf (sizeA job) (job .width) a
+    → Ran (job .width) (job .m) (job .n) (cell (job .n) b) (due (job .done) n (stepsOf job a)) t p t′ p′
+    → _≡_ {A = Job × (ℕ × (Bool × (List ℕ × List ℕ)))} (onJob job (job .done + n), (n, (eqb (job .done + n) count, (t′, p′)))) (turnedOf job a b t p budget)
+unfolding turnedOf turn made total
+turn-done job a b t p t′ p′ budget n count en ec R =
+    let em : n ≡ madeOf job a budget = en ∙ ap (λ (c : ℕ). min budget (c - job .done)) ec in
+    let R′ = subst (λ (c : ℕ). Ran (job .width) (job .m) (job .n) (cell (job .n) b) (due (job .done) c (stepsOf job a)) t p t′ p′) em R in
+    λ i. (onJob job (job .done + em i), (em i, (eqb (job .done + em i) (ec i), (R′ .table i, R′ .product i))))

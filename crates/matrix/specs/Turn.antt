@@ -1,16 +1,16 @@
 -- What `turn` answers and leaves: the next steps of the list, on the contents as found. Assumes nothing.
 use mathlib.Core.Bool.{Bool, false, _||_}
 use mathlib.Core.List.{List, [], _∷_, _++_}
-use Prim.Native.Nat.{ℕ, _+_, _-_, _^_, min}
+use Prim.Native.Nat.{ℕ, _^_}
 use lib.Dec.{ltb, eqb}
 use lib.ListN.{length}
 use Rattle.buffers.specs.Buffer.{cell, encode}
 use Rattle.requests.specs.declared.Size.{Size}
 use Rattle.requests.specs.Answers.{Tests, answered}
 use Rattle.requests.specs.Sizes.{over, faults}
-use Rattle.steps.specs.Step.{State, run}
+use Rattle.steps.specs.Step.{Step}
 use Rattle.steps.specs.StepList.{steps}
-use Rattle.walk.specs.Due.{due}
+use Rattle.steps.specs.Turn.{made, Place, turn}
 use Rattle.walk.specs.Ran.{found}
 use Rattle.matrix.specs.declared.job.Job.{Job}
 use Rattle.matrix.specs.Job.{tableSize, productSize, misfit, totalOf, countless, unwide}
@@ -32,28 +32,31 @@ foundTests job a b t p =
 unfoldable pub turnTests : Job → List ℕ → List ℕ → List ℕ → List ℕ → Tests
 turnTests job a b t p = foundTests job a b t p ++ (countless (totalOf (sizeA job) (job .width) a) ++ ((ltb (totalOf (sizeA job) (job .width) a) (job .done), 7) ∷ []))
 
--- as many steps as the budget allows, or until the list ends
-unfoldable pub madeOf : Job → List ℕ → ℕ → ℕ
-madeOf job a budget = min budget (totalOf (sizeA job) (job .width) a - job .done)
+-- the list of the job's steps
+abbrev pub stepsOf : Job → List ℕ → List Step
+stepsOf job a = steps (job .m) (job .l) (job .width) (cell (job .l) a)
 
--- the state that just these steps leave of the found one
-unfoldable pub leftOf : Job → List ℕ → List ℕ → List ℕ → List ℕ → ℕ → State
-leftOf job a b t p budget =
-    run (cell (job .n) b) (due (job .done) (madeOf job a budget) (steps (job .m) (job .l) (job .width) (cell (job .l) a))) (found (job .n) t p)
+-- as many steps as the budget allows, or until the list ends
+abbrev pub madeOf : Job → List ℕ → ℕ → ℕ
+madeOf job a budget = made (stepsOf job a) (job .done) budget
+
+-- the next steps of the list, on the contents as found
+abbrev pub leftOf : Job → List ℕ → List ℕ → List ℕ → List ℕ → ℕ → Place
+leftOf job a b t p budget = turn (cell (job .n) b) (stepsOf job a) budget (record { done = job .done; state = found (job .n) t p })
 
 abbrev pub onJob : Job → ℕ → Job
-onJob job made = record { m = job .m; l = job .l; n = job .n; width = job .width; done = job .done + made }
+onJob job done = record { m = job .m; l = job .l; n = job .n; width = job .width; done = done }
 
--- the record, the steps made, whether the list is finished, and then table and product
-unfoldable pub turnMeans : Job → List ℕ → List ℕ → List ℕ → List ℕ → ℕ → ℕ × (Job × (ℕ × (Bool × (List ℕ × List ℕ))))
-turnMeans job a b t p budget =
-    answered (turnTests job a b t p) (job, (0, (false, (t, p)))) (
-      onJob job (madeOf job a budget),
+-- the new record, the steps made, whether the list is finished, and then table and product
+unfoldable pub turnedOf : Job → List ℕ → List ℕ → List ℕ → List ℕ → ℕ → Job × (ℕ × (Bool × (List ℕ × List ℕ)))
+turnedOf job a b t p budget =
+    let next : Place = leftOf job a b t p budget in (
+      onJob job (next .done),
       (
         madeOf job a budget,
-        (
-          eqb (job .done + madeOf job a budget) (totalOf (sizeA job) (job .width) a),
-          (encode (2 ^ job .width) (job .n) (leftOf job a b t p budget .table), encode (job .m) (job .n) (leftOf job a b t p budget .product)),
-        ),
+        (eqb (next .done) (totalOf (sizeA job) (job .width) a), (encode (2 ^ job .width) (job .n) (next .state .table), encode (job .m) (job .n) (next .state .product))),
       ),
     )
+
+unfoldable pub turnMeans : Job → List ℕ → List ℕ → List ℕ → List ℕ → ℕ → ℕ × (Job × (ℕ × (Bool × (List ℕ × List ℕ))))
+turnMeans job a b t p budget = answered (turnTests job a b t p) (job, (0, (false, (t, p)))) (turnedOf job a b t p budget)

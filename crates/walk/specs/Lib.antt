@@ -1,3 +1,3 @@
 pub mod Shape
-pub mod Due
+pub mod Spent
 pub mod Ran
