@@ -6,7 +6,7 @@ use mathlib.Core.Bool.{Bool, true}
 use mathlib.Core.List.{List, [], _∷_}
 use Prim.Native.Nat.{ℕ, zero, suc, _+_, _^_, _≤_, min}
 use native.Mathlib.Omega.{arith}
-use lib.Dec.{ltb, eqb}
+use lib.Dec.{eqb}
 use lib.ListN.{length}
 use borrow.Author.Tests.{le-ltb, eq-eqb, ne-eqb}
 use Rattle.cells.specs.Digit.{Matrix}
@@ -18,7 +18,7 @@ use Rattle.requests.specs.declared.Answer.{Answer}
 use Rattle.requests.specs.Answers.{number, first, answered}
 use Rattle.requests.specs.Sizes.{over, faults}
 use Rattle.requests.proofs.SizeLaws.{not-over, not-unfit}
-use Rattle.requests.proofs.AnswerLaws.{none-first, append-none, append-front, later, finished, done-makes}
+use Rattle.requests.proofs.AnswerLaws.{none-first, append-front, finished, done-makes}
 use Rattle.steps.specs.Matrix.{sum, schoolbook}
 use Rattle.steps.specs.Step.{State, run, opening}
 use Rattle.steps.specs.StepList.{steps}
@@ -35,7 +35,7 @@ use Rattle.matrix.specs.Job.{meant, tableSize, productSize, misfit, tota
 use Rattle.matrix.specs.Opening.{fittingTests, openingTests, newJob, openingMeans}
 use Rattle.matrix.specs.Turn.{sizeA, sizeB, foundTests, turnTests, turnedOf, turnMeans}
 use Rattle.matrix.specs.Product.{endOf, productMeans}
-use Rattle.matrix.proofs.JobLaws.{meant-pos, meant-le, Fitting, fitting-ready, fitting-positive, found-positive}
+use Rattle.matrix.proofs.JobLaws.{meant-pos, meant-le, Fitting, fitting-ready, fitting-positive, turn-none}
 
 -- turns that are given one after another: each is handed the record last answered and the same matrices, table and product, and is accepted
 pub data Turns (a b : List ℕ) : Job → List ℕ → List ℕ → List ℕ → Job → List ℕ → List ℕ → Type 0 where
@@ -107,11 +107,7 @@ module _ (x y : Size) (w : ℕ) (a b : List ℕ) (hm : x .rows ≤ 1024) (hl : x
       )
 
   no-test : (d : ℕ) → d ≤ long → first (turnTests (jobAt d) a b (tableAt d) (productAt d)) ≡ 0
-  unfolding turnTests first
-  no-test d h =
-      append-none (foundTests (jobAt d) a b (tableAt d) (productAt d)) _ (found-positive (jobAt d) a b (tableAt d) (productAt d)) (no-fault d)
-      ∙ later (ltb 4294967295 long) 9 ((ltb long d, 7) ∷ []) (le-ltb 4294967295 long (omega (arith, total-small m l k A hm hl (meant-pos w) k8)))
-      ∙ later (ltb long d) 7 [] (le-ltb long d h)
+  no-test d h = turn-none (jobAt d) a b (tableAt d) (productAt d) (no-fault d) (omega (arith, total-small m l k A hm hl (meant-pos w) k8)) h
 
   -- what is found at d is the state at d, within the sizes
   found-at : (d : ℕ) → SameState k m n (found n (tableAt d) (productAt d)) (at d)

@@ -29,8 +29,12 @@ foundTests job a b t p =
     ∷ (misfit (sizeA job) (sizeB job) (job .width) (length a) (length b) (length t) (length p), 4)
     ∷ (faults (sizeA job) a ++ (faults (sizeB job) b ++ (faults (tableSize (sizeB job) (job .width)) t ++ faults (productSize (sizeA job) (sizeB job)) p)))
 
+-- the tests of the total and the steps done
+abbrev pub lateTests : Job → List ℕ → Tests
+lateTests job a = countless (totalOf (sizeA job) (job .width) a) ++ ((ltb (totalOf (sizeA job) (job .width) a) (job .done), 7) ∷ [])
+
 unfoldable pub turnTests : Job → List ℕ → List ℕ → List ℕ → List ℕ → Tests
-turnTests job a b t p = foundTests job a b t p ++ (countless (totalOf (sizeA job) (job .width) a) ++ ((ltb (totalOf (sizeA job) (job .width) a) (job .done), 7) ∷ []))
+turnTests job a b t p = foundTests job a b t p ++ lateTests job a
 
 -- the list of the job's steps
 abbrev pub stepsOf : Job → List ℕ → List Step
