@@ -25,14 +25,14 @@ use Rattle.steps.proofs.Counts.{total-small}
 use Rattle.steps.proofs.Turns.{made-done, min-more}
 use Rattle.matrix.specs.declared.job.Job.{Job}
 use Rattle.matrix.specs.Job.{meant, tableSize, productSize, totalOf}
-use Rattle.matrix.specs.Opening.{newJob}
+use Rattle.matrix.specs.Opening.{openedOf}
 use Rattle.matrix.specs.Turn.{sizeA, sizeB}
-use Rattle.matrix.proofs.JobLaws.{meant-pos, meant-le, Fitting, fitting-ready, opening-first}
+use Rattle.matrix.proofs.JobLaws.{meant-pos, meant-le, Fitting, opening-ready}
 use Rattle.matrix.proofs.Demand3.{turn-at, end-right}
 use Rattle.cface.specs.Bytes.{wordsIn, bytesOf}
 use Rattle.cface.specs.Limit.{above, unfitBytes, misfitBytes}
 use Rattle.cface.specs.Record.{unfitRecord, jobIn, recordOf}
-use Rattle.cface.specs.Open.{openSizes, openFaceTests, openFace}
+use Rattle.cface.specs.Open.{openSizes, openFaceTests, openBytes, openFace}
 use Rattle.cface.specs.Turn.{turnSizes, turnFace}
 use Rattle.cface.proofs.ByteLaws.{words-bytes, bytes-length}
 use Rattle.cface.proofs.JobCarryLaws.{Fits, open-fits, open-same, turn-carried}
@@ -239,12 +239,9 @@ module _ (x y : Size) (w : ℕ) (a b : List ℕ) (hm : x .rows ≤ 64) (hl : x .
 -- ---- from an opening on
 
 module _ (x y : Size) (w : ℕ) (job a b t p job₀ t₀ p₀ : List ℕ) (opened : _≡_ {A = ℕ × (List ℕ × (List ℕ × List ℕ))} (0, (job₀, (t₀, p₀))) (openFace x y w job a b t p)) where
-  abbrev new : List ℕ × (List ℕ × List ℕ)
-  new = (bytesOf (recordOf (newJob x y w) 0 false), (bytesOf (encode (2 ^ meant w) (y .columns) (λ i j. 0)), bytesOf (encode (x .rows) (y .columns) (λ i j. 0))))
-
-  as-new : (first (openFaceTests x y w (length job) a b (length t) (length p)) ≡ 0) × (_≡_ {A = List ℕ × (List ℕ × List ℕ)} (job₀, (t₀, p₀)) new)
+  as-new : (first (openFaceTests x y w (length job) a b (length t) (length p)) ≡ 0) × ((job₀, (t₀, p₀)) ≡ openBytes (openedOf x y w))
   unfolding openFace
-  as-new = done-makes (openFaceTests x y w (length job) a b (length t) (length p)) _ new (job₀, (t₀, p₀)) opened
+  as-new = done-makes (openFaceTests x y w (length job) a b (length t) (length p)) _ (openBytes (openedOf x y w)) (job₀, (t₀, p₀)) opened
 
   sizes : first (openSizes x y w (length job) (length a) (length b) (length t) (length p)) ≡ 0
   unfolding openFaceTests openSizes
@@ -256,8 +253,8 @@ module _ (x y : Size) (w : ℕ) (job a b t p job₀ t₀ p₀ : List ℕ) (opene
   -- what an accepted opening is of
   pub facts : Fitting x y w (wordsIn a) (wordsIn b) (length t / 8) (length p / 8)
   facts =
-      fitting-ready x y w (wordsIn a) (wordsIn b) (length t / 8) (length p / 8)
-      (sym (opening-first x y w (wordsIn a) (wordsIn b) (length t / 8) (length p / 8)) ∙ open-same x y w (length job) a b (length t) (length p) sizes (length t / 8) (length p / 8) (F .table) (F .product) ∙ as-new .0)
+      opening-ready x y w (wordsIn a) (wordsIn b) (length t / 8) (length p / 8)
+      (open-same x y w (length job) a b (length t) (length p) sizes (length t / 8) (length p / 8) (F .table) (F .product) ∙ as-new .0)
 
   abbrev Standing : ℕ → List ℕ → List ℕ → List ℕ → Type 0
   Standing = Stands x y w a b (F .m) (F .l) (F .n) (F .narrow) (F .bytes-a) (F .bytes-b) (facts .left) (facts .right)

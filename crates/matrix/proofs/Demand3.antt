@@ -18,7 +18,7 @@ use Rattle.requests.specs.declared.Answer.{Answer}
 use Rattle.requests.specs.Answers.{number, first, answered}
 use Rattle.requests.specs.Sizes.{over, faults}
 use Rattle.requests.proofs.SizeLaws.{not-over, not-unfit}
-use Rattle.requests.proofs.AnswerLaws.{none-first, append-front, finished, done-makes}
+use Rattle.requests.proofs.AnswerLaws.{none-first, finished, done-makes}
 use Rattle.steps.specs.Matrix.{sum, schoolbook}
 use Rattle.steps.specs.Step.{State, run, opening}
 use Rattle.steps.specs.StepList.{steps}
@@ -32,10 +32,10 @@ use Rattle.steps.proofs.Turns.{made-done, min-more, after-all, turn-same}
 use Rattle.walk.specs.Ran.{found}
 use Rattle.matrix.specs.declared.job.Job.{Job}
 use Rattle.matrix.specs.Job.{meant, tableSize, productSize, misfit, totalOf}
-use Rattle.matrix.specs.Opening.{fittingTests, openingTests, newJob, openingMeans}
+use Rattle.matrix.specs.Opening.{openingTests, newJob, openedOf, openingMeans}
 use Rattle.matrix.specs.Turn.{sizeA, sizeB, foundTests, turnTests, turnedOf, turnMeans}
 use Rattle.matrix.specs.Product.{endOf, productMeans}
-use Rattle.matrix.proofs.JobLaws.{meant-pos, meant-le, Fitting, fitting-ready, fitting-positive, turn-none}
+use Rattle.matrix.proofs.JobLaws.{meant-pos, meant-le, Fitting, opening-ready, turn-none}
 
 -- turns that are given one after another: each is handed the record last answered and the same matrices, table and product, and is accepted
 pub data Turns (a b : List ℕ) : Job → List ℕ → List ℕ → List ℕ → Job → List ℕ → List ℕ → Type 0 where
@@ -187,7 +187,7 @@ module _ (x y : Size) (w : ℕ) (a b : List ℕ) (hm : x .rows ≤ 1024) (hl : x
 
   -- these matrices are opened at this width, with any table and product of the right length
   pub opens : (t p : List ℕ) → l ≡ y .rows → length t ≡ words (2 ^ k) n → length p ≡ words m n → openingMeans x y w a b t p ≡ (0, (jobAt 0, (tableAt 0, productAt 0)))
-  unfolding openingMeans openingTests fittingTests misfit faults after run opening
+  unfolding openingMeans openingTests misfit faults after run opening
   opens t p same lt lp =
       let ta = tests-legal m l a LA in
       let LY : Legal (y .rows) n b = rw (← same) LB in
@@ -222,16 +222,12 @@ module _ (x y : Size) (w : ℕ) (a b t p : List ℕ) (r : Answer) (job₀ : Job)
   Left : Type 0
   Left = ℕ × (Job × (List ℕ × List ℕ))
 
-  abbrev new : Job × (List ℕ × List ℕ)
-  new = (newJob x y w, (encode (2 ^ meant w) (y .columns) (λ i j. 0), encode (x .rows) (y .columns) (λ i j. 0)))
-
-  as-new : (first (openingTests x y w a b (length t) (length p)) ≡ 0) × (_≡_ {A = Job × (List ℕ × List ℕ)} (job₀, (t₀, p₀)) new)
+  as-new : (first (openingTests x y w a b (length t) (length p)) ≡ 0) × ((job₀, (t₀, p₀)) ≡ openedOf x y w)
   unfolding openingMeans
-  as-new = done-makes (openingTests x y w a b (length t) (length p)) _ new (job₀, (t₀, p₀)) (rw ok at opened)
+  as-new = done-makes (openingTests x y w a b (length t) (length p)) _ (openedOf x y w) (job₀, (t₀, p₀)) (rw ok at opened)
 
   pub facts : Fitting x y w a b (length t) (length p)
-  unfolding openingTests
-  facts = fitting-ready x y w a b (length t) (length p) (append-front (fittingTests x y w a b (length t) (length p)) _ (fitting-positive x y w a b (length t) (length p)) (as-new .0))
+  facts = opening-ready x y w a b (length t) (length p) (as-new .0)
 
   -- the sizes, the width and the matrices that an accepted opening is of
   abbrev Standing : ℕ → Job → List ℕ → List ℕ → Type 0

@@ -27,7 +27,7 @@ use Rattle.walk.specs.Ran.{found}
 use Rattle.matrix.specs.declared.job.Job.{Job}
 use Rattle.matrix.specs.Job.{meant, misfit}
 use Rattle.matrix.specs.Quote.{quoteTests, quoteMeans}
-use Rattle.matrix.specs.Total.{factorTests, totalTests, totalMeans}
+use Rattle.matrix.specs.Total.{listTests, totalTests, totalMeans}
 use Rattle.matrix.specs.Turn.{foundTests, turnTests, turnedOf, turnMeans}
 
 abbrev one : Size
@@ -74,7 +74,7 @@ pub record Sums : Type 0 where
   pub quoted : quoteMeans one 1 ≡ (0, 2)
 
 pub sums : Sums
-unfolding turnMeans turnTests foundTests turnedOf turn made totalMeans totalTests factorTests quoteMeans quoteTests quote total sum meant misfit due found steps blocks blockWidth blockSteps rowSteps tableSteps each many unless0 bitsOf lowestBit cleared put apply run opening answered first left over unfit faults stray padded any unit sign cell bitAt bit planes wide words encode joined plane tab wordOf unitOf signOf add3 sub3 is trailingZeros
+unfolding turnMeans turnTests foundTests turnedOf turn made totalMeans totalTests listTests quoteMeans quoteTests quote total sum meant misfit due found steps blocks blockWidth blockSteps rowSteps tableSteps each many unless0 bitsOf lowestBit cleared put apply run opening answered first left over unfit faults stray padded any unit sign cell bitAt bit planes wide words encode joined plane tab wordOf unitOf signOf add3 sub3 is trailingZeros
 sums = record { first-step = refl; second-step = refl; both-steps = refl; totals = (refl, refl); quoted = refl }
 
 -- ---- turns

@@ -36,7 +36,7 @@ use Rattle.walk.proofs.CountLaws.{pow-small}
 use Rattle.walk.proofs.PieceLaws.{from-place}
 use Rattle.matrix.specs.declared.job.Job.{Job}
 use Rattle.matrix.specs.Job.{meant, tableSize, productSize, misfit, totalOf, countless}
-use Rattle.matrix.specs.Total.{factorTests}
+use Rattle.matrix.specs.Total.{listTests}
 use Rattle.matrix.specs.Opening.{fittingTests, openingTests}
 use Rattle.matrix.specs.Turn.{sizeA, sizeB, foundTests, lateTests, turnTests, stepsOf, madeOf, onJob, turnedOf}
 
@@ -80,16 +80,16 @@ module _ (x y : Size) (w a b t p : ℕ) (h : misfit x y w a b t p ≡ false) whe
   pub fit-product : unfit (productSize x y) p ≡ false
   fit-product = or-right (unfit (tableSize y w) t) _ after-b
 
-pub record Factor (x : Size) (w : ℕ) (a : List ℕ) : Type 0 where
+pub record Countable (x : Size) (w : ℕ) (a : List ℕ) : Type 0 where
   pub rows : x .rows ≤ 1024
   pub columns : x .columns ≤ 1024
   pub width : w ≤ 8
   pub legal : Legal (x .rows) (x .columns) a
 
-pub factor-ready : (x : Size) (w : ℕ) (a : List ℕ) → first (factorTests x w a) ≡ 0 → Factor x w a
-unfolding factorTests faults
-factor-ready x w a z =
-    let t : None (factorTests x w a) = first-none (factorTests x w a) tt z in
+pub list-ready : (x : Size) (w : ℕ) (a : List ℕ) → first (listTests x w a) ≡ 0 → Countable x w a
+unfolding listTests faults
+list-ready x w a z =
+    let t : None (listTests x w a) = first-none (listTests x w a) tt z in
     record {
       rows = over-rows x (t .0);
       columns = over-columns x (t .0);
@@ -169,9 +169,9 @@ meant-some (suc w) ne = refl
 
 -- ---- positive numbers alone stand in the lists
 
-pub factor-positive : (x : Size) (w : ℕ) (a : List ℕ) → T (positive (factorTests x w a))
-unfolding factorTests faults
-factor-positive x w a = tt
+pub list-positive : (x : Size) (w : ℕ) (a : List ℕ) → T (positive (listTests x w a))
+unfolding listTests faults
+list-positive x w a = tt
 
 pub fitting-positive : (x y : Size) (w : ℕ) (a b : List ℕ) (t p : ℕ) → T (positive (fittingTests x y w a b t p))
 unfolding fittingTests faults
@@ -179,16 +179,19 @@ fitting-positive x y w a b t p = tt
 
 -- within the sizes no list is too long to count
 pub opening-first : (x y : Size) (w : ℕ) (a b : List ℕ) (t p : ℕ) → first (openingTests x y w a b t p) ≡ first (fittingTests x y w a b t p)
-unfolding openingTests first
+unfolding openingTests fittingTests first
 opening-first x y w a b t p = go (first (fittingTests x y w a b t p)) refl
   where
-    go : (n : ℕ) → first (fittingTests x y w a b t p) ≡ n → first (fittingTests x y w a b t p ++ countless (totalOf x (meant w) a)) ≡ first (fittingTests x y w a b t p)
+    go : (n : ℕ) → first (fittingTests x y w a b t p) ≡ n → first (fittingTests x y w a b t p ++ countless x (meant w) a) ≡ first (fittingTests x y w a b t p)
     go zero e =
         let r = fitting-ready x y w a b t p e in
-        append-none (fittingTests x y w a b t p) (countless (totalOf x (meant w) a)) (fitting-positive x y w a b t p) e
+        append-none (fittingTests x y w a b t p) (countless x (meant w) a) (fitting-positive x y w a b t p) e
         ∙ later (ltb 4294967295 (totalOf x (meant w) a)) 9 [] (le-ltb 4294967295 (totalOf x (meant w) a) (omega (arith, total-small (x .rows) (x .columns) (meant w) (cell (x .columns) a) (r .m) (r .l) (meant-pos w) (meant-le w (r .width)))))
         ∙ sym e
-    go (suc n) e = append-given (fittingTests x y w a b t p) (countless (totalOf x (meant w) a)) (λ z. omega (arith, e, z))
+    go (suc n) e = append-given (fittingTests x y w a b t p) (countless x (meant w) a) (λ z. omega (arith, e, z))
+
+pub opening-ready : (x y : Size) (w : ℕ) (a b : List ℕ) (t p : ℕ) → first (openingTests x y w a b t p) ≡ 0 → Fitting x y w a b t p
+opening-ready x y w a b t p z = fitting-ready x y w a b t p (sym (opening-first x y w a b t p) ∙ z)
 
 pub found-positive : (job : Job) (a b t p : List ℕ) → T (positive (foundTests job a b t p))
 unfolding foundTests faults

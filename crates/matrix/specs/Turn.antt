@@ -7,13 +7,13 @@ use lib.ListN.{length}
 use Rattle.buffers.specs.Buffer.{cell, encode}
 use Rattle.requests.specs.declared.Size.{Size}
 use Rattle.requests.specs.Answers.{Tests, answered}
-use Rattle.requests.specs.Sizes.{over, faults}
+use Rattle.requests.specs.Sizes.{over}
 use Rattle.steps.specs.Step.{Step}
 use Rattle.steps.specs.StepList.{steps}
 use Rattle.steps.specs.Turn.{made, Place, turn}
 use Rattle.walk.specs.Ran.{found}
 use Rattle.matrix.specs.declared.job.Job.{Job}
-use Rattle.matrix.specs.Job.{tableSize, productSize, misfit, totalOf, countless, unwide}
+use Rattle.matrix.specs.Job.{unwide, tableSize, productSize, misfit, totalOf, countless, pairFaults}
 
 abbrev pub sizeA : Job → Size
 sizeA job = record { rows = job .m; columns = job .l }
@@ -21,17 +21,21 @@ sizeA job = record { rows = job .m; columns = job .l }
 abbrev pub sizeB : Job → Size
 sizeB job = record { rows = job .l; columns = job .n }
 
--- the tests of sizes, width, lengths and cells: A, B, table, product
+-- the tests of the cells: A, B, table, product
+abbrev pub cellTests : Job → List ℕ → List ℕ → List ℕ → List ℕ → Tests
+cellTests job a b t p = pairFaults (sizeA job) (sizeB job) a b ++ pairFaults (tableSize (sizeB job) (job .width)) (productSize (sizeA job) (sizeB job)) t p
+
+-- the tests of sizes, width, lengths and cells
 unfoldable pub foundTests : Job → List ℕ → List ℕ → List ℕ → List ℕ → Tests
 foundTests job a b t p =
     (over (sizeA job) || over (sizeB job), 1)
     ∷ (unwide (job .width), 3)
     ∷ (misfit (sizeA job) (sizeB job) (job .width) (length a) (length b) (length t) (length p), 4)
-    ∷ (faults (sizeA job) a ++ (faults (sizeB job) b ++ (faults (tableSize (sizeB job) (job .width)) t ++ faults (productSize (sizeA job) (sizeB job)) p)))
+    ∷ cellTests job a b t p
 
 -- the tests of the total and the steps done
 abbrev pub lateTests : Job → List ℕ → Tests
-lateTests job a = countless (totalOf (sizeA job) (job .width) a) ++ ((ltb (totalOf (sizeA job) (job .width) a) (job .done), 7) ∷ [])
+lateTests job a = countless (sizeA job) (job .width) a ++ ((ltb (totalOf (sizeA job) (job .width) a) (job .done), 7) ∷ [])
 
 unfoldable pub turnTests : Job → List ℕ → List ℕ → List ℕ → List ℕ → Tests
 turnTests job a b t p = foundTests job a b t p ++ lateTests job a

@@ -1,14 +1,13 @@
 // A turn: the next steps of a job's list, as many as the budget allows or until the list ends.
 ghost use mathlib.Core.Path.{_≡_};
 ghost use mathlib.Core.Bool.{false, _||_};
-ghost use mathlib.Core.List.{_++_};
 ghost use Prim.Native.Nat.{ℕ, _≤_};
 ghost use lib.ListN.{length};
 ghost use Rattle.buffers.specs.Buffer.{cell};
 ghost use Rattle.requests.specs.Answers.{number, first};
-ghost use Rattle.requests.specs.Sizes.{over, unfit, faults};
+ghost use Rattle.requests.specs.Sizes.{over, unfit};
 ghost use Rattle.walk.specs.Place.{StandsAt};
-ghost use Rattle.matrix.specs.Job.{unwide};
+ghost use Rattle.matrix.specs.Job.{unwide, pairFaults};
 ghost use Rattle.matrix.specs.Turn.{foundTests, turnedOf, turnMeans};
 use super::job::Job;
 use super::job::misfit;
@@ -44,7 +43,7 @@ pub fn unwide(width: u64) -> bool
 // The faults of two buffers of the right length, the first one's first.
 fn either_fault(x: Size, y: Size, a: &[u64], b: &[u64]) -> Answer
     requires { ⌜ (over x ≡ false) × (over y ≡ false) × (unfit x (length (now a)) ≡ false) × (unfit y (length (now b)) ≡ false) ⌝ }
-    ensures { λ r. ⌜ number r ≡ first (faults x (now (a .entry)) ++ faults y (now (b .entry))) ⌝ }
+    ensures { λ r. ⌜ number r ≡ first (pairFaults x y (now (a .entry)) (now (b .entry))) ⌝ }
 {
     let f = fault(x, a);
     if number(f) != 0 {
