@@ -14,7 +14,8 @@ use Rattle.buffers.specs.Buffer.{words, cell, Words, Legal, encode}
 use Rattle.buffers.proofs.BufferLaws.{tests-legal, encode-length, encode-words}
 use Rattle.requests.specs.declared.Size.{Size}
 use Rattle.requests.specs.Answers.{first, left}
-use Rattle.requests.specs.Sizes.{over, faults}
+use Rattle.requests.specs.Sizes.{faults}
+use Rattle.requests.proofs.SizeLaws.{not-over}
 use Rattle.requests.proofs.AnswerLaws.{none-first, finished, done-makes, append-front}
 use Rattle.steps.specs.Matrix.{schoolbook}
 use Rattle.steps.specs.Step.{State, run, opening}
@@ -60,10 +61,6 @@ record-words job made ended m l n w d h (suc (suc (suc (suc (suc (suc zero))))))
 record-words job made ended m l n w d h (suc (suc (suc (suc (suc (suc (suc k))))))) = omega arith
 
 -- ---- tests that do not hold
-
-small : (s : Size) → s .rows ≤ 64 → s .columns ≤ 64 → over s ≡ false
-unfolding over
-small s h l = rw (le-ltb 1024 (s .rows) (omega arith), le-ltb 1024 (s .columns) (omega arith))
 
 within : (s : Size) → s .rows ≤ 64 → s .columns ≤ 64 → above s ≡ false
 unfolding above
@@ -132,7 +129,7 @@ module _ (x y : Size) (w : ℕ) (a b : List ℕ) (hm : x .rows ≤ 64) (hl : x .
       none-first _ (
         rw (eq-eqb (length (recordAt d made ended)) (8 * 7) (bytes-length (recordOf (jobAt d) made ended))),
         (
-          rw (small (sizeA (jobAt d)) hm hl) (small (sizeB (jobAt d)) hl hn),
+          rw (not-over (sizeA (jobAt d)) im il) (not-over (sizeB (jobAt d)) il jn),
           (
             rw (within (sizeA (jobAt d)) hm hl) (within (sizeB (jobAt d)) hl hn),
             (
@@ -160,7 +157,7 @@ module _ (x y : Size) (w : ℕ) (a b : List ℕ) (hm : x .rows ≤ 64) (hl : x .
       sym (finished _ _ _ _ (none-first (openFaceTests x y w (length job) a b (length t) (length p)) (
         rw (eq-eqb (length job) (8 * 7) r),
         (
-          rw (small x hm hl) (small y hy hn),
+          rw (not-over x im il) (not-over y (omega arith) jn),
           (
             rw (within x hm hl) (within y hy hn),
             (
