@@ -17,7 +17,7 @@ due skip budget ps = take budget (drop skip ps)
 unfoldable pub made : List Step → ℕ → ℕ → ℕ
 made ps done budget = min budget (length ps - done)
 
--- where a list of steps stands: the steps done, and what they left
+-- where a list of steps stands: the steps done, and the state
 pub record Place : Type 0 where
   pub done : ℕ
   pub state : State

@@ -6,7 +6,7 @@ use Rattle.buffers.specs.Buffer.{cell}
 use Rattle.requests.specs.Answers.{first}
 use Rattle.requests.proofs.AnswerLaws.{append-given, append-none, here, later, refused, finished}
 use Rattle.steps.specs.Count.{total}
-use Rattle.matrix.specs.Job.{meant, totalOf, countless}
+use Rattle.matrix.specs.Job.{meant, countless}
 use Rattle.matrix.specs.Total.{listTests, totalTests, totalMeans}
 use Rattle.matrix.proofs.JobLaws.{meant-pos, meant-le, list-ready, list-positive}
 use borrow.Author.Needs.{needs}

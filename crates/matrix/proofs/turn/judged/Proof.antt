@@ -1,5 +1,5 @@
-use mathlib.Core.Path.{sym, ap, _∙_}
-use mathlib.Core.List.{_++_, append-assoc}
+use mathlib.Core.Path.{sym, _∙_}
+use mathlib.Core.List.{_++_}
 use borrow.Author.Tests.{ltb-false}
 use Rattle.cells.proofs.AnyLaws.{or-left, or-right}
 use lib.Dec.{ltb, eqb}
