@@ -21,13 +21,13 @@ use Rattle.steps.specs.Matrix.{schoolbook}
 use Rattle.steps.specs.Step.{lowestBit, cleared, put, apply, run, opening}
 use Rattle.steps.specs.StepList.{unless0, many, each, tableSteps, rowSteps, blockSteps, blocks, blockWidth, steps}
 use Rattle.steps.specs.Count.{total}
-use Rattle.walk.specs.Due.{due}
+use Rattle.steps.specs.Turn.{due, made, turn}
 use Rattle.walk.specs.Ran.{found}
 use Rattle.matrix.specs.Job.{meant}
 use Rattle.matrix.specs.Sum.{sumOf}
 use Rattle.matrix.specs.Difference.{differenceOf}
 use Rattle.matrix.specs.Negation.{negationOf}
-use Rattle.matrix.specs.Turn.{madeOf, leftOf}
+use Rattle.matrix.specs.Turn.{turnedOf}
 use Rattle.wordbytes.specs.Bytes.{byteOf, valueOf, wordsIn, bytesOf}
 use Rattle.cface.specs.Limit.{above, unfitBytes, misfitBytes}
 use Rattle.cface.specs.Check.{checkSizes, checkFaceTests, checkFace}
@@ -38,7 +38,7 @@ use Rattle.cface.specs.Negation.{negationSizes, negationFaceTests, negat
 use Rattle.cface.specs.Product.{productSizes, productFaceTests, productFace}
 use Rattle.cface.specs.Record.{unfitRecord, jobIn, recordOf}
 use Rattle.cface.specs.Open.{openSizes, openFaceTests, openFace}
-use Rattle.cface.specs.Turn.{turnSizes, wordTests, turned, turnFaceTests, turnFace}
+use Rattle.cface.specs.Turn.{turnSizes, turnFaceTests, turnFace}
 
 abbrev one : Size
 one = record { rows = 1; columns = 1 }
@@ -87,7 +87,7 @@ pub record Sums : Type 0 where
   pub moved : (turnFace (job 1 1 0 0) two1 one1 newTable zero1 2 ≡ (0, (job 1 1 2 1, (madeTable, two1)))) × (turnFace (job 1 1 0 0) zero1 one1 newTable zero1 2 ≡ (0, (job 1 1 1 1, (madeTable, zero1))))
 
 pub sums : Sums
-unfolding checkFace checkFaceTests checkSizes sumFace sumOf differenceFace differenceOf pairFaceTests pairSizes negationFace negationFaceTests negationSizes negationOf productFace productFaceTests productSizes openFace openFaceTests openSizes turnFace turnFaceTests turnSizes wordTests turned unfitRecord jobIn recordOf unfitBytes misfitBytes above wordsIn bytesOf valueOf byteOf madeOf leftOf meant due found schoolbook sum total steps blocks blockWidth blockSteps rowSteps tableSteps each many unless0 bitsOf lowestBit cleared put apply run opening answered first left over unequal faults stray padded any unit sign cell bitAt bit planes wide words encode joined plane tab wordOf unitOf signOf add3 sub3 neg3 is trailingZeros
+unfolding checkFace checkFaceTests checkSizes sumFace sumOf differenceFace differenceOf pairFaceTests pairSizes negationFace negationFaceTests negationSizes negationOf productFace productFaceTests productSizes openFace openFaceTests openSizes turnFace turnFaceTests turnSizes unfitRecord jobIn recordOf unfitBytes misfitBytes above wordsIn bytesOf valueOf byteOf turnedOf turn made meant due found schoolbook sum total steps blocks blockWidth blockSteps rowSteps tableSteps each many unless0 bitsOf lowestBit cleared put apply run opening answered first left over unequal faults stray padded any unit sign cell bitAt bit planes wide words encode joined plane tab wordOf unitOf signOf add3 sub3 neg3 is trailingZeros
 sums = record {
   checked = (refl, refl);
   added = (refl, refl);

@@ -1,7 +1,7 @@
 -- Product, opening and turn of the library on the words of bytes, carried over as in CarryLaws. Assumes nothing.
 use mathlib.Core.Path.{_≡_, refl, sym, ap, _∙_}
 use mathlib.Core.Bool.{Bool, false, not, _||_}
-use mathlib.Core.List.{List, [], _∷_, _++_}
+use mathlib.Core.List.{List, [], _∷_}
 use Prim.Native.Nat.{ℕ, _+_, _*_, _≤_, _/_}
 use native.Mathlib.Omega.{arith}
 use lib.Dec.{ltb, eqb}
@@ -12,13 +12,13 @@ use Rattle.buffers.specs.Buffer.{words}
 use Rattle.requests.specs.declared.Size.{Size}
 use Rattle.requests.specs.declared.Answer.{Answer}
 use Rattle.requests.specs.Answers.{number, first, left}
-use Rattle.requests.specs.Sizes.{over, unfit, faults}
+use Rattle.requests.specs.Sizes.{over, unfit}
 use Rattle.requests.proofs.SizeLaws.{not-unfit}
 use Rattle.requests.proofs.AnswerLaws.{None, first-none, refused}
 use Rattle.walk.proofs.CountLaws.{pow-small}
 use Rattle.matrix.specs.declared.job.Job.{Job}
-use Rattle.matrix.specs.Job.{meant, tableSize, productSize, misfit, totalOf, countless}
-use Rattle.matrix.specs.Opening.{fittingTests, openingTests, openingMeans}
+use Rattle.matrix.specs.Job.{meant, tableSize, productSize, misfit}
+use Rattle.matrix.specs.Opening.{sizeTests, wordTests, openingTests, openingMeans}
 use Rattle.matrix.specs.Product.{productMeans}
 use Rattle.matrix.specs.Turn.{sizeA, sizeB, foundTests, turnTests, turnMeans}
 use Rattle.matrix.proofs.JobLaws.{meant-le}
@@ -27,19 +27,17 @@ use Rattle.wordbytes.specs.Bytes.{wordsIn, bytesOf}
 use Rattle.cface.specs.Limit.{above, unfitBytes, misfitBytes}
 use Rattle.cface.specs.Product.{productSizes, productFaceTests, productFace}
 use Rattle.cface.specs.Record.{unfitRecord, jobIn, recordOf}
-use Rattle.cface.specs.Open.{openSizes, openFaceTests, openFace}
-use Rattle.cface.specs.Turn.{turnSizes, wordTests, turned, turnFaceTests, turnFace}
+use Rattle.cface.specs.Open.{openSizes, openFaceTests, openBytes, openFace}
+use Rattle.cface.specs.Turn.{turnSizes, turnWords, turnBytes, turnFaceTests, turnFace}
 use Rattle.cface.proofs.LimitLaws.{Room, room, fit-bytes, above-rows, above-columns, fits-words, fits-in, fits-a, fits-b, fits-out, fit-a, fit-b, fit-table, fit-product}
 use Rattle.cface.proofs.CarryLaws.{past-none, carried}
 
 -- the library's tests of an opening, where no size, width or length is wrong
 module _ (x y : Size) (w : ℕ) (a b : List ℕ) (t p : ℕ) (small : (over x || over y) ≡ false) (same : not (eqb (x .columns) (y .rows)) ≡ false) (narrow : ltb 8 w ≡ false) (fa : unfitBytes x (length a) ≡ false) (fb : unfitBytes y (length b) ≡ false) (ft : unfit (tableSize y (meant w)) t ≡ false) (fp : unfit (productSize x y) p ≡ false) where
-  opening-left : first (openingTests x y w (wordsIn a) (wordsIn b) t p) ≡ first (faults x (wordsIn a) ++ (faults y (wordsIn b) ++ countless (totalOf x (meant w) (wordsIn a))))
-  unfolding openingTests fittingTests misfit faults
+  opening-left : first (openingTests x y w (wordsIn a) (wordsIn b) t p) ≡ first (wordTests x y w (wordsIn a) (wordsIn b))
+  unfolding openingTests misfit
   opening-left =
-      past-none ((over x || over y, 1) ∷ (not (eqb (x .columns) (y .rows)), 2) ∷ (ltb 8 w, 3) ∷ (misfit x y (meant w) (length (wordsIn a)) (length (wordsIn b)) t p, 4) ∷ [])
-      (faults x (wordsIn a) ++ (faults y (wordsIn b) ++ countless (totalOf x (meant w) (wordsIn a))))
-      (small, (same, (narrow, (rw (fits-in x a fa, fits-in y b fb, ft) fp, tt))))
+      past-none (sizeTests x y w (wordsIn a) (wordsIn b) t p) (wordTests x y w (wordsIn a) (wordsIn b)) (small, (same, (narrow, (rw (fits-in x a fa, fits-in y b fb, ft) fp, tt))))
 
 -- ---- product
 
@@ -84,7 +82,7 @@ module _ (x y : Size) (a b : List ℕ) (n : ℕ) (z : first (productSizes x y (l
   unfolding productFaceTests productSizes meant
   product-same t k et e =
       opening-left x y 0 a b t k (product-none .0) (product-none .1 .1 .0) refl bytes-a bytes-b (not-unfit (tableSize y (meant 0)) t et) (fits-words (productSize x y) n k bytes-out e)
-      ∙ sym (past-none (productSizes x y (length a) (length b) n) (faults x (wordsIn a) ++ (faults y (wordsIn b) ++ countless (totalOf x (meant 0) (wordsIn a)))) product-none)
+      ∙ sym (past-none (productSizes x y (length a) (length b) n) (wordTests x y 0 (wordsIn a) (wordsIn b)) product-none)
 
 pub product-carried : (x y : Size) (a b out u v t w t′ w′ : List ℕ) (f : ℕ) (r : Answer) → first (productSizes x y (length a) (length b) (length out)) ≡ 0 → length t ≡ words 16 (y .columns) → length out ≡ 8 * length w
     → u ≡ wordsIn a → v ≡ wordsIn b → f ≡ number r → (number r, (t′, w′)) ≡ productMeans x y 0 u v t w → (f, left f out (bytesOf w′)) ≡ productFace x y a b out
@@ -137,7 +135,7 @@ module _ (x y : Size) (width k : ℕ) (a b : List ℕ) (t p : ℕ) (z : first (o
   unfolding openFaceTests openSizes
   open-same i j ei ej =
       opening-left x y width a b i j (open-none .1 .0) (open-none .1 .1 .1 .0) (open-none .1 .1 .1 .1 .0) (fit-a x y (meant width) (length a) (length b) t p lengths) (fit-b x y (meant width) (length a) (length b) t p lengths) (fits-words (tableSize y (meant width)) t i (fit-table x y (meant width) (length a) (length b) t p lengths) ei) (fits-words (productSize x y) p j (fit-product x y (meant width) (length a) (length b) t p lengths) ej)
-      ∙ sym (past-none (openSizes x y width k (length a) (length b) t p) (faults x (wordsIn a) ++ (faults y (wordsIn b) ++ countless (totalOf x (meant width) (wordsIn a)))) open-none)
+      ∙ sym (past-none (openSizes x y width k (length a) (length b) t p) (wordTests x y width (wordsIn a) (wordsIn b)) open-none)
 
 -- what is so where no size, width or length of an opening is wrong
 pub record Fits (x y : Size) (width k : ℕ) (a b : List ℕ) (t p : ℕ) : Type 0 where
@@ -173,11 +171,8 @@ pub open-carried : (x y : Size) (width : ℕ) (job a b table product u v t p t�
     → _≡_ {A = ℕ × (List ℕ × (List ℕ × List ℕ))} (f, left f (job, (table, product)) (bytesOf (recordOf new 0 false), (bytesOf t′, bytesOf p′))) (openFace x y width job a b table product)
 unfolding openingMeans openFace
 open-carried x y width job a b table product u v t p t′ p′ new f n z et ep eu ev e says =
-    carried {S = Job × (List ℕ × List ℕ)} {R = List ℕ × (List ℕ × List ℕ)} carry (openingTests x y width (wordsIn a) (wordsIn b) (length t) (length p)) _ _ _ (new, (t′, p′)) (job, (table, product)) _ f n e (rw (eu, ev) at says)
-    (open-same x y width (length job) a b (length table) (length product) z (length t) (length p) et ep) (λ _ m. ap carry m)
-  where
-    carry : Job × (List ℕ × List ℕ) → List ℕ × (List ℕ × List ℕ)
-    carry = λ o. (bytesOf (recordOf (o .0) 0 false), (bytesOf (o .1 .0), bytesOf (o .1 .1)))
+    carried {S = Job × (List ℕ × List ℕ)} {R = List ℕ × (List ℕ × List ℕ)} openBytes (openingTests x y width (wordsIn a) (wordsIn b) (length t) (length p)) _ _ _ (new, (t′, p′)) (job, (table, product)) _ f n e (rw (eu, ev) at says)
+    (open-same x y width (length job) a b (length table) (length product) z (length t) (length p) et ep) (λ _ m. ap openBytes m)
 
 -- ---- turn
 
@@ -232,26 +227,23 @@ module _ (job : Job) (k : ℕ) (a b : List ℕ) (t p : ℕ) (z : first (turnSize
 
 -- the library's tests are those of the words, where no size, width or length is wrong
 pub turn-same : (job : Job) (k : ℕ) (a b t p : List ℕ) → first (turnSizes job k (length a) (length b) (length t) (length p)) ≡ 0
-    → first (turnTests job (wordsIn a) (wordsIn b) (wordsIn t) (wordsIn p)) ≡ first (wordTests job (wordsIn a) (wordsIn b) (wordsIn t) (wordsIn p))
-unfolding turnTests foundTests misfit wordTests turnSizes
+    → first (turnTests job (wordsIn a) (wordsIn b) (wordsIn t) (wordsIn p)) ≡ first (turnWords job (wordsIn a) (wordsIn b) (wordsIn t) (wordsIn p))
+unfolding turnTests foundTests misfit turnSizes
 turn-same job k a b t p z =
     let h = turn-none job k a b (length t) (length p) z in
     past-none ((over (sizeA job) || over (sizeB job), 1) ∷ (eqb (job .width) 0 || ltb 8 (job .width), 3) ∷ (misfit (sizeA job) (sizeB job) (job .width) (length (wordsIn a)) (length (wordsIn b)) (length (wordsIn t)) (length (wordsIn p)), 4) ∷ [])
-    (wordTests job (wordsIn a) (wordsIn b) (wordsIn t) (wordsIn p))
+    (turnWords job (wordsIn a) (wordsIn b) (wordsIn t) (wordsIn p))
     (h .1 .0, (h .1 .1 .1 .0, (rw (fits-in (sizeA job) a (turn-fit-a job k a b (length t) (length p) z), fits-in (sizeB job) b (turn-fit-b job k a b (length t) (length p) z), fits-in (tableSize (sizeB job) (job .width)) t (turn-fit-table job k a b (length t) (length p) z)) (fits-in (productSize (sizeA job) (sizeB job)) p (turn-fit-product job k a b (length t) (length p) z)), tt)))
-
-pub carry : Job × (ℕ × (Bool × (List ℕ × List ℕ))) → List ℕ × (List ℕ × List ℕ)
-carry o = (bytesOf (recordOf (o .0) (o .1 .0) (o .1 .1 .0)), (bytesOf (o .1 .1 .1 .0), bytesOf (o .1 .1 .1 .1)))
 
 pub turn-carried : (found : Job) (job a b table product u v t p t′ p′ : List ℕ) (budget : ℕ) (next : Job) (made : ℕ) (ended : Bool) (f n : ℕ) → found ≡ jobIn (wordsIn job)
     → first (turnSizes found (length job) (length a) (length b) (length table) (length product)) ≡ 0 → u ≡ wordsIn a → v ≡ wordsIn b → t ≡ wordsIn table → p ≡ wordsIn product → f ≡ n
     → (n, (next, (made, (ended, (t′, p′))))) ≡ turnMeans found u v t p budget
     → _≡_ {A = ℕ × (List ℕ × (List ℕ × List ℕ))} (f, left f (job, (table, product)) (bytesOf (recordOf next made ended), (bytesOf t′, bytesOf p′))) (turnFace job a b table product budget)
-unfolding turnMeans turnFace turnFaceTests turned carry
+unfolding turnMeans turnFace turnFaceTests
 turn-carried found job a b table product u v t p t′ p′ budget next made ended f n ej z eu ev et ep e says =
     let y : first (turnSizes (jobIn (wordsIn job)) (length job) (length a) (length b) (length table) (length product)) ≡ 0 = rw ej at z in
-    carried {S = Job × (ℕ × (Bool × (List ℕ × List ℕ)))} {R = List ℕ × (List ℕ × List ℕ)} carry (turnTests (jobIn (wordsIn job)) (wordsIn a) (wordsIn b) (wordsIn table) (wordsIn product)) _ _ _ (next, (made, (ended, (t′, p′)))) (job, (table, product)) _ f n e (rw (ej, eu, ev, et, ep) at says)
-    (turn-same (jobIn (wordsIn job)) (length job) a b table product y ∙ sym (past-none (turnSizes (jobIn (wordsIn job)) (length job) (length a) (length b) (length table) (length product)) _ (turn-none (jobIn (wordsIn job)) (length job) a b (length table) (length product) y))) (λ _ m. ap carry m)
+    carried {S = Job × (ℕ × (Bool × (List ℕ × List ℕ)))} {R = List ℕ × (List ℕ × List ℕ)} turnBytes (turnTests (jobIn (wordsIn job)) (wordsIn a) (wordsIn b) (wordsIn table) (wordsIn product)) _ _ _ (next, (made, (ended, (t′, p′)))) (job, (table, product)) _ f n e (rw (ej, eu, ev, et, ep) at says)
+    (turn-same (jobIn (wordsIn job)) (length job) a b table product y ∙ sym (past-none (turnSizes (jobIn (wordsIn job)) (length job) (length a) (length b) (length table) (length product)) _ (turn-none (jobIn (wordsIn job)) (length job) a b (length table) (length product) y))) (λ _ m. ap turnBytes m)
 
 -- a record of another length
 pub turn-length : (job a b table product : List ℕ) (budget f : ℕ) → f ≡ 4 → (length job ≡ 56 → ⊥) → _≡_ {A = ℕ × (List ℕ × (List ℕ × List ℕ))} (f, (job, (table, product))) (turnFace job a b table product budget)

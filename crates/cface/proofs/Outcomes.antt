@@ -1,8 +1,9 @@
 -- Two outcomes that satisfy a call's statement coincide: one lemma, at each call. Assumes nothing.
-use mathlib.Core.Path.{_≡_, sym, ap, _∙_}
+use mathlib.Core.Path.{_≡_, sym, _∙_}
 use mathlib.Core.List.{List}
 use Prim.Native.Nat.{ℕ}
 use Rattle.requests.specs.declared.Size.{Size}
+use Rattle.requests.proofs.AnswerLaws.{numbers-coincide}
 use Rattle.cface.specs.Check.{checkFace}
 use Rattle.cface.specs.Sum.{sumFace}
 use Rattle.cface.specs.Difference.{differenceFace}
@@ -11,31 +12,25 @@ use Rattle.cface.specs.Product.{productFace}
 use Rattle.cface.specs.Open.{openFace}
 use Rattle.cface.specs.Turn.{turnFace}
 
--- an outcome is a number and what is left
-coincide : {S : Type 0} (means : ℕ × S) (r r′ : ℕ) (s s′ : S) → (r, s) ≡ means → (r′, s′) ≡ means → (r ≡ r′) × (s ≡ s′)
-coincide {S = S} means r r′ s s′ p q =
-    let e : _≡_ {A = ℕ × S} (r, s) (r′, s′) = p ∙ sym q in
-    (ap (λ (o : ℕ × S). o .0) e, ap (λ (o : ℕ × S). o .1) e)
-
 pub check-one : (s : Size) (a : List ℕ) (r r′ : ℕ) → r ≡ checkFace s a → r′ ≡ checkFace s a → r ≡ r′
 check-one s a r r′ p q = p ∙ sym q
 
 pub sum-one : (x y : Size) (a b out : List ℕ) (r r′ : ℕ) (o o′ : List ℕ) → (r, o) ≡ sumFace x y a b out → (r′, o′) ≡ sumFace x y a b out → (r ≡ r′) × (o ≡ o′)
-sum-one x y a b out r r′ o o′ p q = coincide (sumFace x y a b out) r r′ o o′ p q
+sum-one x y a b out r r′ o o′ p q = numbers-coincide (sumFace x y a b out) r r′ o o′ p q
 
 pub difference-one : (x y : Size) (a b out : List ℕ) (r r′ : ℕ) (o o′ : List ℕ) → (r, o) ≡ differenceFace x y a b out → (r′, o′) ≡ differenceFace x y a b out → (r ≡ r′) × (o ≡ o′)
-difference-one x y a b out r r′ o o′ p q = coincide (differenceFace x y a b out) r r′ o o′ p q
+difference-one x y a b out r r′ o o′ p q = numbers-coincide (differenceFace x y a b out) r r′ o o′ p q
 
 pub negation-one : (s : Size) (a out : List ℕ) (r r′ : ℕ) (o o′ : List ℕ) → (r, o) ≡ negationFace s a out → (r′, o′) ≡ negationFace s a out → (r ≡ r′) × (o ≡ o′)
-negation-one s a out r r′ o o′ p q = coincide (negationFace s a out) r r′ o o′ p q
+negation-one s a out r r′ o o′ p q = numbers-coincide (negationFace s a out) r r′ o o′ p q
 
 pub product-one : (x y : Size) (a b out : List ℕ) (r r′ : ℕ) (o o′ : List ℕ) → (r, o) ≡ productFace x y a b out → (r′, o′) ≡ productFace x y a b out → (r ≡ r′) × (o ≡ o′)
-product-one x y a b out r r′ o o′ p q = coincide (productFace x y a b out) r r′ o o′ p q
+product-one x y a b out r r′ o o′ p q = numbers-coincide (productFace x y a b out) r r′ o o′ p q
 
 -- ---- jobs: record, table and product
 
 pub open-one : (x y : Size) (w : ℕ) (job a b t p : List ℕ) (r r′ : ℕ) (o o′ : List ℕ × (List ℕ × List ℕ)) → (r, o) ≡ openFace x y w job a b t p → (r′, o′) ≡ openFace x y w job a b t p → (r ≡ r′) × (o ≡ o′)
-open-one x y w job a b t p r r′ o o′ u v = coincide (openFace x y w job a b t p) r r′ o o′ u v
+open-one x y w job a b t p r r′ o o′ u v = numbers-coincide (openFace x y w job a b t p) r r′ o o′ u v
 
 pub turn-one : (job a b t p : List ℕ) (budget : ℕ) (r r′ : ℕ) (o o′ : List ℕ × (List ℕ × List ℕ)) → (r, o) ≡ turnFace job a b t p budget → (r′, o′) ≡ turnFace job a b t p budget → (r ≡ r′) × (o ≡ o′)
-turn-one job a b t p budget r r′ o o′ u v = coincide (turnFace job a b t p budget) r r′ o o′ u v
+turn-one job a b t p budget r r′ o o′ u v = numbers-coincide (turnFace job a b t p budget) r r′ o o′ u v

@@ -1,17 +1,16 @@
 -- For each call: a number is given exactly when its test is the first in the order that holds, and then every buffer, the record too, holds
 -- what it held; done is given exactly when no test holds, and then what is new is left. Assumes nothing.
 use mathlib.Core.Path.{_≡_, sym, _∙_}
-use mathlib.Core.Bool.{false}
 use mathlib.Core.List.{List}
-use Prim.Native.Nat.{ℕ, _^_}
+use Prim.Native.Nat.{ℕ}
 use lib.ListN.{length}
 use Rattle.buffers.specs.Buffer.{cell, encode}
 use Rattle.requests.specs.declared.Size.{Size}
 use Rattle.requests.specs.Sizes.{faults}
 use Rattle.requests.proofs.AnswerLaws.{None, Gives, given, gives, first-none, none-first, Exact, exact}
 use Rattle.steps.specs.Matrix.{schoolbook}
-use Rattle.matrix.specs.Job.{meant}
-use Rattle.matrix.specs.Opening.{newJob}
+use Rattle.matrix.specs.Opening.{openedOf}
+use Rattle.matrix.specs.Turn.{turnedOf}
 use Rattle.matrix.specs.Sum.{sumOf}
 use Rattle.matrix.specs.Difference.{differenceOf}
 use Rattle.matrix.specs.Negation.{negationOf}
@@ -22,9 +21,9 @@ use Rattle.cface.specs.Sum.{sumFace}
 use Rattle.cface.specs.Difference.{differenceFace}
 use Rattle.cface.specs.Negation.{negationSizes, negationFaceTests, negationFace}
 use Rattle.cface.specs.Product.{productSizes, productFaceTests, productFace}
-use Rattle.cface.specs.Record.{jobIn, recordOf}
-use Rattle.cface.specs.Open.{openSizes, openFaceTests, openFace}
-use Rattle.cface.specs.Turn.{turnSizes, wordTests, turned, turnFaceTests, turnFace}
+use Rattle.cface.specs.Record.{jobIn}
+use Rattle.cface.specs.Open.{openSizes, openFaceTests, openBytes, openFace}
+use Rattle.cface.specs.Turn.{turnSizes, turnBytes, turnFaceTests, turnFace}
 
 pub check-exact : (s : Size) (a : List ℕ) (r : ℕ) → r ≡ checkFace s a
     → ((k : ℕ) → (k ≡ 0 → ⊥) → (r ≡ k → Gives k (checkFaceTests s a)) × (Gives k (checkFaceTests s a) → r ≡ k)) × (r ≡ 0 → None (checkFaceTests s a)) × (None (checkFaceTests s a) → r ≡ 0)
@@ -57,12 +56,11 @@ unfolding productFace productFaceTests productSizes faults
 product-exact x y a b out r o says = exact (productFaceTests x y a b (length out)) _ _ r o tt says
 
 pub open-exact : (x y : Size) (w : ℕ) (job a b t p : List ℕ) (r : ℕ) (o : List ℕ × (List ℕ × List ℕ)) → (r, o) ≡ openFace x y w job a b t p
-    → Exact {S = List ℕ × (List ℕ × List ℕ)} (openFaceTests x y w (length job) a b (length t) (length p)) (job, (t, p))
-    (bytesOf (recordOf (newJob x y w) 0 false), (bytesOf (encode (2 ^ meant w) (y .columns) (λ i j. 0)), bytesOf (encode (x .rows) (y .columns) (λ i j. 0)))) r o
+    → Exact {S = List ℕ × (List ℕ × List ℕ)} (openFaceTests x y w (length job) a b (length t) (length p)) (job, (t, p)) (openBytes (openedOf x y w)) r o
 unfolding openFace openFaceTests openSizes faults
 open-exact x y w job a b t p r o says = exact (openFaceTests x y w (length job) a b (length t) (length p)) _ _ r o tt says
 
 pub turn-exact : (job a b t p : List ℕ) (budget : ℕ) (r : ℕ) (o : List ℕ × (List ℕ × List ℕ)) → (r, o) ≡ turnFace job a b t p budget
-    → Exact {S = List ℕ × (List ℕ × List ℕ)} (turnFaceTests job a b t p) (job, (t, p)) (turned (jobIn (wordsIn job)) (wordsIn a) (wordsIn b) (wordsIn t) (wordsIn p) budget) r o
-unfolding turnFace turnFaceTests turnSizes wordTests faults
+    → Exact {S = List ℕ × (List ℕ × List ℕ)} (turnFaceTests job a b t p) (job, (t, p)) (turnBytes (turnedOf (jobIn (wordsIn job)) (wordsIn a) (wordsIn b) (wordsIn t) (wordsIn p) budget)) r o
+unfolding turnFace turnFaceTests turnSizes faults
 turn-exact job a b t p budget r o says = exact (turnFaceTests job a b t p) _ _ r o tt says

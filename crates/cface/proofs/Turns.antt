@@ -5,7 +5,7 @@
 use mathlib.Core.Path.{_≡_, refl, sym, ap, subst, _∙_}
 use mathlib.Core.Bool.{Bool, true, false, not, cond}
 use mathlib.Core.List.{List, [], _∷_}
-use Prim.Native.Nat.{ℕ, zero, suc, _+_, _-_, _*_, _/_, _^_, _≤_, _<_, min}
+use Prim.Native.Nat.{ℕ, zero, suc, _+_, _*_, _/_, _^_, _≤_, _<_, min}
 use native.Mathlib.Omega.{arith}
 use lib.Dec.{eqb}
 use lib.ListN.{length, getD}
@@ -14,24 +14,26 @@ use Rattle.buffers.specs.Buffer.{words, cell, Words, Legal, encode}
 use Rattle.buffers.proofs.BufferLaws.{tests-legal, encode-length, encode-words}
 use Rattle.requests.specs.declared.Size.{Size}
 use Rattle.requests.specs.Answers.{first, left}
-use Rattle.requests.specs.Sizes.{over, faults}
+use Rattle.requests.specs.Sizes.{faults}
+use Rattle.requests.proofs.SizeLaws.{not-over}
 use Rattle.requests.proofs.AnswerLaws.{none-first, finished, done-makes, append-front}
 use Rattle.steps.specs.Matrix.{schoolbook}
 use Rattle.steps.specs.Step.{State, run, opening}
 use Rattle.steps.specs.StepList.{steps}
 use Rattle.steps.specs.Count.{total}
-use Rattle.steps.specs.Turn.{after, allBudgets}
+use Rattle.steps.specs.Turn.{after, made, allBudgets}
 use Rattle.steps.proofs.Counts.{total-small}
+use Rattle.steps.proofs.Turns.{made-done, min-more}
 use Rattle.matrix.specs.declared.job.Job.{Job}
 use Rattle.matrix.specs.Job.{meant, tableSize, productSize, totalOf}
-use Rattle.matrix.specs.Opening.{newJob}
+use Rattle.matrix.specs.Opening.{openedOf}
 use Rattle.matrix.specs.Turn.{sizeA, sizeB}
-use Rattle.matrix.proofs.JobLaws.{meant-pos, meant-le, Fitting, fitting-ready, opening-first}
+use Rattle.matrix.proofs.JobLaws.{meant-pos, meant-le, Fitting, opening-ready}
 use Rattle.matrix.proofs.Demand3.{turn-at, end-right}
 use Rattle.wordbytes.specs.Bytes.{wordsIn, bytesOf}
 use Rattle.cface.specs.Limit.{above, unfitBytes, misfitBytes}
 use Rattle.cface.specs.Record.{unfitRecord, jobIn, recordOf}
-use Rattle.cface.specs.Open.{openSizes, openFaceTests, openFace}
+use Rattle.cface.specs.Open.{openSizes, openFaceTests, openBytes, openFace}
 use Rattle.cface.specs.Turn.{turnSizes, turnFace}
 use Rattle.wordbytes.proofs.ByteLaws.{words-bytes, bytes-length}
 use Rattle.cface.proofs.JobCarryLaws.{Fits, open-fits, open-same, turn-carried}
@@ -59,10 +61,6 @@ record-words job made ended m l n w d h (suc (suc (suc (suc (suc (suc zero))))))
 record-words job made ended m l n w d h (suc (suc (suc (suc (suc (suc (suc k))))))) = omega arith
 
 -- ---- tests that do not hold
-
-small : (s : Size) → s .rows ≤ 64 → s .columns ≤ 64 → over s ≡ false
-unfolding over
-small s h l = rw (le-ltb 1024 (s .rows) (omega arith), le-ltb 1024 (s .columns) (omega arith))
 
 within : (s : Size) → s .rows ≤ 64 → s .columns ≤ 64 → above s ≡ false
 unfolding above
@@ -114,8 +112,12 @@ module _ (x y : Size) (w : ℕ) (a b : List ℕ) (hm : x .rows ≤ 64) (hl : x .
   long-small : long < 2 ^ 32
   long-small = total-small (x .rows) (x .columns) (meant w) (cell (x .columns) (wordsIn a)) im il (meant-pos w) (meant-le w hw)
 
+  -- the steps that a turn makes after d of them, and where it stands then
   abbrev makes : ℕ → ℕ → ℕ
-  makes d budget = min budget (long - d)
+  makes d budget = made (steps (x .rows) (x .columns) (meant w) (cell (x .columns) (wordsIn a))) d budget
+
+  abbrev next : ℕ → ℕ → ℕ
+  next d budget = min (d + budget) long
 
   words-at : (d made : ℕ) (ended : Bool) → d ≤ long → made < 2 ^ 64 → wordsIn (recordAt d made ended) ≡ recordOf (jobAt d) made ended
   words-at d made ended h small-made =
@@ -127,7 +129,7 @@ module _ (x y : Size) (w : ℕ) (a b : List ℕ) (hm : x .rows ≤ 64) (hl : x .
       none-first _ (
         rw (eq-eqb (length (recordAt d made ended)) (8 * 7) (bytes-length (recordOf (jobAt d) made ended))),
         (
-          rw (small (sizeA (jobAt d)) hm hl) (small (sizeB (jobAt d)) hl hn),
+          rw (not-over (sizeA (jobAt d)) im il) (not-over (sizeB (jobAt d)) il jn),
           (
             rw (within (sizeA (jobAt d)) hm hl) (within (sizeB (jobAt d)) hl hn),
             (
@@ -155,7 +157,7 @@ module _ (x y : Size) (w : ℕ) (a b : List ℕ) (hm : x .rows ≤ 64) (hl : x .
       sym (finished _ _ _ _ (none-first (openFaceTests x y w (length job) a b (length t) (length p)) (
         rw (eq-eqb (length job) (8 * 7) r),
         (
-          rw (small x hm hl) (small y hy hn),
+          rw (not-over x im il) (not-over y (omega arith) jn),
           (
             rw (within x hm hl) (within y hy hn),
             (
@@ -175,7 +177,7 @@ module _ (x y : Size) (w : ℕ) (a b : List ℕ) (hm : x .rows ≤ 64) (hl : x .
   -- a turn of a job that stands at d is accepted; the record says the steps made and whether the list has ended
   pub turn-stands : (d budget made : ℕ) (ended : Bool) → d ≤ long → made < 2 ^ 64
       → turnFace (recordAt d made ended) a b (tableAt d) (productAt d) budget
-      ≡ (0, (recordAt (d + makes d budget) (makes d budget) (eqb (d + makes d budget) long), (tableAt (d + makes d budget), productAt (d + makes d budget))))
+      ≡ (0, (recordAt (next d budget) (makes d budget) (eqb (next d budget) long), (tableAt (next d budget), productAt (next d budget))))
   unfolding left
   turn-stands d budget made ended h small-made =
       sym (turn-carried (jobAt d) (recordAt d made ended) a b (tableAt d) (productAt d) (wordsIn a) (wordsIn b) (encode (2 ^ meant w) (y .columns) (at d .table)) (encode (x .rows) (y .columns) (at d .product)) _ _ budget _ _ _ 0 0
@@ -198,7 +200,7 @@ module _ (x y : Size) (w : ℕ) (a b : List ℕ) (hm : x .rows ≤ 64) (hl : x .
   meaning d budget job t p S = rw (S .record-is, S .table-is, S .product-is)
 
   next-stands : (d budget : ℕ) (job t p : List ℕ) → d ≤ long → Stands d job t p
-      → turnFace job a b t p budget ≡ (0, (recordAt (d + makes d budget) (makes d budget) (eqb (d + makes d budget) long), (tableAt (d + makes d budget), productAt (d + makes d budget))))
+      → turnFace job a b t p budget ≡ (0, (recordAt (next d budget) (makes d budget) (eqb (next d budget) long), (tableAt (next d budget), productAt (next d budget))))
   next-stands d budget job t p h S = meaning d budget job t p S ∙ turn-stands d budget (S .made) (S .ended) h (S .made-fits)
 
   pub accepted : (d budget : ℕ) (job t p : List ℕ) → d ≤ long → Stands d job t p → turnFace job a b t p budget .0 ≡ 0
@@ -206,31 +208,26 @@ module _ (x y : Size) (w : ℕ) (a b : List ℕ) (hm : x .rows ≤ 64) (hl : x .
   accepted d budget job t p h S = ap (λ (o : Outcome). o .0) (next-stands d budget job t p h S)
 
   one-turn : (d budget : ℕ) (job t p job₁ t₁ p₁ : List ℕ) → d ≤ long → Stands d job t p → _≡_ {A = ℕ × (List ℕ × (List ℕ × List ℕ))} (0, (job₁, (t₁, p₁))) (turnFace job a b t p budget)
-      → Stands (min (d + budget) long) job₁ t₁ p₁
-  unfolding Outcome
+      → Stands (next d budget) job₁ t₁ p₁
+  unfolding Outcome made total
   one-turn d budget job t p job₁ t₁ p₁ h S says =
       let e = says ∙ next-stands d budget job t p h S in
-      let next : d + makes d budget ≡ min (d + budget) long = omega arith in
-      subst (λ (j : ℕ). Stands j job₁ t₁ p₁) next
-      (record {
+      record {
         made = makes d budget;
-        ended = eqb (d + makes d budget) long;
+        ended = eqb (next d budget) long;
         made-fits = omega (arith, long-small);
         record-is = ap (λ (o : Outcome). o .1 .0) e;
         table-is = ap (λ (o : Outcome). o .1 .1 .0) e;
         product-is = ap (λ (o : Outcome). o .1 .1 .1) e;
-      })
-
-  sum-min : (d b c e : ℕ) → min (min (d + b) e + c) e ≡ min (d + (b + c)) e
-  sum-min d b c e = omega arith
+      }
 
   pub turns-stand : (budgets : List ℕ) (d : ℕ) (job t p job₁ t₁ p₁ : List ℕ) → d ≤ long → Stands d job t p → Turns a b job t p budgets job₁ t₁ p₁
       → Stands (min (d + allBudgets budgets) long) job₁ t₁ p₁
   unfolding allBudgets
   turns-stand [] d job t p job₁ t₁ p₁ h S none = let e : min (d + 0) long ≡ d = omega arith in rw e S
   turns-stand (budget ∷ budgets) d job t p job₁ t₁ p₁ h S (more _ says rest) =
-      subst (λ (j : ℕ). Stands j job₁ t₁ p₁) (sum-min d budget (allBudgets budgets) long)
-      (turns-stand budgets (min (d + budget) long) _ _ _ job₁ t₁ p₁ (omega arith) (one-turn d budget job t p _ _ _ h S says) rest)
+      subst (λ (j : ℕ). Stands j job₁ t₁ p₁) (min-more d budget (allBudgets budgets) long)
+      (turns-stand budgets (next d budget) _ _ _ job₁ t₁ p₁ (omega arith) (one-turn d budget job t p _ _ _ h S says) rest)
 
   -- the end: the schoolbook product, for every width
   pub end-stands : (d : ℕ) → long ≤ d → productAt d ≡ bytesOf (encode (x .rows) (y .columns) (schoolbook (x .columns) (cell (x .columns) (wordsIn a)) (cell (y .columns) (wordsIn b))))
@@ -239,16 +236,13 @@ module _ (x y : Size) (w : ℕ) (a b : List ℕ) (hm : x .rows ≤ 64) (hl : x .
 -- ---- from an opening on
 
 module _ (x y : Size) (w : ℕ) (job a b t p job₀ t₀ p₀ : List ℕ) (opened : _≡_ {A = ℕ × (List ℕ × (List ℕ × List ℕ))} (0, (job₀, (t₀, p₀))) (openFace x y w job a b t p)) where
-  abbrev new : List ℕ × (List ℕ × List ℕ)
-  new = (bytesOf (recordOf (newJob x y w) 0 false), (bytesOf (encode (2 ^ meant w) (y .columns) (λ i j. 0)), bytesOf (encode (x .rows) (y .columns) (λ i j. 0))))
-
-  made : (first (openFaceTests x y w (length job) a b (length t) (length p)) ≡ 0) × (_≡_ {A = List ℕ × (List ℕ × List ℕ)} (job₀, (t₀, p₀)) new)
+  as-new : (first (openFaceTests x y w (length job) a b (length t) (length p)) ≡ 0) × ((job₀, (t₀, p₀)) ≡ openBytes (openedOf x y w))
   unfolding openFace
-  made = done-makes (openFaceTests x y w (length job) a b (length t) (length p)) _ new (job₀, (t₀, p₀)) opened
+  as-new = done-makes (openFaceTests x y w (length job) a b (length t) (length p)) _ (openBytes (openedOf x y w)) (job₀, (t₀, p₀)) opened
 
   sizes : first (openSizes x y w (length job) (length a) (length b) (length t) (length p)) ≡ 0
   unfolding openFaceTests openSizes
-  sizes = append-front (openSizes x y w (length job) (length a) (length b) (length t) (length p)) _ tt (made .0)
+  sizes = append-front (openSizes x y w (length job) (length a) (length b) (length t) (length p)) _ tt (as-new .0)
 
   pub F : Fits x y w (length job) a b (length t) (length p)
   F = open-fits x y w (length job) a b (length t) (length p) sizes
@@ -256,8 +250,8 @@ module _ (x y : Size) (w : ℕ) (job a b t p job₀ t₀ p₀ : List ℕ) (opene
   -- what an accepted opening is of
   pub facts : Fitting x y w (wordsIn a) (wordsIn b) (length t / 8) (length p / 8)
   facts =
-      fitting-ready x y w (wordsIn a) (wordsIn b) (length t / 8) (length p / 8)
-      (sym (opening-first x y w (wordsIn a) (wordsIn b) (length t / 8) (length p / 8)) ∙ open-same x y w (length job) a b (length t) (length p) sizes (length t / 8) (length p / 8) (F .table) (F .product) ∙ made .0)
+      opening-ready x y w (wordsIn a) (wordsIn b) (length t / 8) (length p / 8)
+      (open-same x y w (length job) a b (length t) (length p) sizes (length t / 8) (length p / 8) (F .table) (F .product) ∙ as-new .0)
 
   abbrev Standing : ℕ → List ℕ → List ℕ → List ℕ → Type 0
   Standing = Stands x y w a b (F .m) (F .l) (F .n) (F .narrow) (F .bytes-a) (F .bytes-b) (facts .left) (facts .right)
@@ -268,9 +262,9 @@ module _ (x y : Size) (w : ℕ) (job a b t p job₀ t₀ p₀ : List ℕ) (opene
     made = 0;
     ended = false;
     made-fits = omega arith;
-    record-is = ap (λ (o : List ℕ × (List ℕ × List ℕ)). o .0) (made .1);
-    table-is = ap (λ (o : List ℕ × (List ℕ × List ℕ)). o .1 .0) (made .1);
-    product-is = ap (λ (o : List ℕ × (List ℕ × List ℕ)). o .1 .1) (made .1);
+    record-is = ap (λ (o : List ℕ × (List ℕ × List ℕ)). o .0) (as-new .1);
+    table-is = ap (λ (o : List ℕ × (List ℕ × List ℕ)). o .1 .0) (as-new .1);
+    product-is = ap (λ (o : List ℕ × (List ℕ × List ℕ)). o .1 .1) (as-new .1);
   }
 
   module _ (budgets : List ℕ) (job₁ t₁ p₁ : List ℕ) (given : Turns a b job₀ t₀ p₀ budgets job₁ t₁ p₁) where
@@ -299,11 +293,13 @@ module _ (x y : Size) (w : ℕ) (job a b t p job₀ t₀ p₀ : List ℕ) (opene
         ∙ words-at x y w a b (F .m) (F .l) (F .n) (F .narrow) (F .bytes-a) (F .bytes-b) (facts .left) (facts .right) reached (demand-3 .made) (demand-3 .ended) (omega arith) (demand-3 .made-fits)
 
     abbrev makes-next : ℕ → ℕ
-    makes-next budget = min budget (totalOf x (meant w) (wordsIn a) - reached)
+    makes-next budget = made (steps (x .rows) (x .columns) (meant w) (cell (x .columns) (wordsIn a))) reached budget
 
     -- one turn more: the last two words say the steps that it made, and whether the list has ended
     pub demand-3-last : (budget : ℕ) → turnFace job₁ a b t₁ p₁ budget .1 .0
         ≡ bytesOf (recordOf (record { m = x .rows; l = x .columns; n = y .columns; width = meant w; done = reached + makes-next budget }) (makes-next budget) (eqb (reached + makes-next budget) (totalOf x (meant w) (wordsIn a))))
+    unfolding total
     demand-3-last budget =
-        ap (λ (o : ℕ × (List ℕ × (List ℕ × List ℕ))). o .1 .0)
-        (next-stands x y w a b (F .m) (F .l) (F .n) (F .narrow) (F .bytes-a) (F .bytes-b) (facts .left) (facts .right) reached budget job₁ t₁ p₁ (omega arith) demand-3)
+        rw (made-done (steps (x .rows) (x .columns) (meant w) (cell (x .columns) (wordsIn a))) reached budget (omega arith))
+        (ap (λ (o : ℕ × (List ℕ × (List ℕ × List ℕ))). o .1 .0)
+        (next-stands x y w a b (F .m) (F .l) (F .n) (F .narrow) (F .bytes-a) (F .bytes-b) (facts .left) (facts .right) reached budget job₁ t₁ p₁ (omega arith) demand-3))

@@ -1,15 +1,15 @@
 -- What `nyuzolamba_open` answers and leaves: a record, and zero in table and product. Assumes nothing.
 use mathlib.Core.Bool.{false, _||_}
 use mathlib.Core.List.{List, [], _∷_, _++_}
-use Prim.Native.Nat.{ℕ, _^_}
+use Prim.Native.Nat.{ℕ}
 use lib.Dec.{ltb}
 use lib.ListN.{length}
-use Rattle.buffers.specs.Buffer.{encode}
 use Rattle.requests.specs.declared.Size.{Size}
 use Rattle.requests.specs.Answers.{Tests, answered}
-use Rattle.requests.specs.Sizes.{over, faults}
-use Rattle.matrix.specs.Job.{meant, totalOf, countless, unmatched}
-use Rattle.matrix.specs.Opening.{newJob}
+use Rattle.requests.specs.Sizes.{over}
+use Rattle.matrix.specs.declared.job.Job.{Job}
+use Rattle.matrix.specs.Job.{meant, unmatched}
+use Rattle.matrix.specs.Opening.{wordTests, openedOf}
 use Rattle.wordbytes.specs.Bytes.{wordsIn, bytesOf}
 use Rattle.cface.specs.Limit.{above, misfitBytes}
 use Rattle.cface.specs.Record.{unfitRecord, recordOf}
@@ -26,13 +26,11 @@ openSizes x y width k l m t p =
     ∷ []
 
 unfoldable pub openFaceTests : Size → Size → ℕ → ℕ → List ℕ → List ℕ → ℕ → ℕ → Tests
-openFaceTests x y width k a b t p =
-    openSizes x y width k (length a) (length b) t p ++ (faults x (wordsIn a) ++ (faults y (wordsIn b) ++ countless (totalOf x (meant width) (wordsIn a))))
+openFaceTests x y width k a b t p = openSizes x y width k (length a) (length b) t p ++ wordTests x y width (wordsIn a) (wordsIn b)
 
--- the record, and then table and product
+-- record, table and product as bytes, of what the library's opening leaves
+abbrev pub openBytes : Job × (List ℕ × List ℕ) → List ℕ × (List ℕ × List ℕ)
+openBytes o = (bytesOf (recordOf (o .0) 0 false), (bytesOf (o .1 .0), bytesOf (o .1 .1)))
+
 unfoldable pub openFace : Size → Size → ℕ → List ℕ → List ℕ → List ℕ → List ℕ → List ℕ → ℕ × (List ℕ × (List ℕ × List ℕ))
-openFace x y width r a b t p =
-    answered (openFaceTests x y width (length r) a b (length t) (length p)) (r, (t, p)) (
-      bytesOf (recordOf (newJob x y width) 0 false),
-      (bytesOf (encode (2 ^ meant width) (y .columns) (λ i j. 0)), bytesOf (encode (x .rows) (y .columns) (λ i j. 0))),
-    )
+openFace x y width r a b t p = answered (openFaceTests x y width (length r) a b (length t) (length p)) (r, (t, p)) (openBytes (openedOf x y width))

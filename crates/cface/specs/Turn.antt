@@ -1,15 +1,13 @@
 -- What `nyuzolamba_turn` answers and leaves: the next steps of the list, on the contents as found. Assumes nothing.
-use mathlib.Core.Bool.{_||_}
+use mathlib.Core.Bool.{Bool, _||_}
 use mathlib.Core.List.{List, [], _∷_, _++_}
-use Prim.Native.Nat.{ℕ, _+_, _^_}
-use lib.Dec.{ltb, eqb}
+use Prim.Native.Nat.{ℕ}
 use lib.ListN.{length}
-use Rattle.buffers.specs.Buffer.{encode}
 use Rattle.requests.specs.Answers.{Tests, answered}
-use Rattle.requests.specs.Sizes.{over, faults}
+use Rattle.requests.specs.Sizes.{over}
 use Rattle.matrix.specs.declared.job.Job.{Job}
-use Rattle.matrix.specs.Job.{tableSize, productSize, totalOf, countless, unwide}
-use Rattle.matrix.specs.Turn.{sizeA, sizeB, madeOf, leftOf, onJob}
+use Rattle.matrix.specs.Job.{unwide}
+use Rattle.matrix.specs.Turn.{sizeA, sizeB, cellTests, lateTests, turnedOf}
 use Rattle.wordbytes.specs.Bytes.{wordsIn, bytesOf}
 use Rattle.cface.specs.Limit.{above, misfitBytes}
 use Rattle.cface.specs.Record.{unfitRecord, jobIn, recordOf}
@@ -25,20 +23,15 @@ turnSizes job k l m t p =
     ∷ []
 
 -- the tests of the words: the cells of A, B, table and product, then the total and the steps done
-unfoldable pub wordTests : Job → List ℕ → List ℕ → List ℕ → List ℕ → Tests
-wordTests job a b t p =
-    (faults (sizeA job) a ++ (faults (sizeB job) b ++ (faults (tableSize (sizeB job) (job .width)) t ++ faults (productSize (sizeA job) (sizeB job)) p)))
-    ++ (countless (totalOf (sizeA job) (job .width) a) ++ ((ltb (totalOf (sizeA job) (job .width) a) (job .done), 7) ∷ []))
+abbrev pub turnWords : Job → List ℕ → List ℕ → List ℕ → List ℕ → Tests
+turnWords job a b t p = cellTests job a b t p ++ lateTests job a
 
--- what an accepted turn leaves in record, table and product
-unfoldable pub turned : Job → List ℕ → List ℕ → List ℕ → List ℕ → ℕ → List ℕ × (List ℕ × List ℕ)
-turned job a b t p budget = (
-  bytesOf (recordOf (onJob job (madeOf job a budget)) (madeOf job a budget) (eqb (job .done + madeOf job a budget) (totalOf (sizeA job) (job .width) a))),
-  (bytesOf (encode (2 ^ job .width) (job .n) (leftOf job a b t p budget .table)), bytesOf (encode (job .m) (job .n) (leftOf job a b t p budget .product))),
-)
+-- record, table and product as bytes, of what the library's turn leaves
+abbrev pub turnBytes : Job × (ℕ × (Bool × (List ℕ × List ℕ))) → List ℕ × (List ℕ × List ℕ)
+turnBytes o = (bytesOf (recordOf (o .0) (o .1 .0) (o .1 .1 .0)), (bytesOf (o .1 .1 .1 .0), bytesOf (o .1 .1 .1 .1)))
 
 unfoldable pub turnFaceTests : List ℕ → List ℕ → List ℕ → List ℕ → List ℕ → Tests
-turnFaceTests r a b t p = turnSizes (jobIn (wordsIn r)) (length r) (length a) (length b) (length t) (length p) ++ wordTests (jobIn (wordsIn r)) (wordsIn a) (wordsIn b) (wordsIn t) (wordsIn p)
+turnFaceTests r a b t p = turnSizes (jobIn (wordsIn r)) (length r) (length a) (length b) (length t) (length p) ++ turnWords (jobIn (wordsIn r)) (wordsIn a) (wordsIn b) (wordsIn t) (wordsIn p)
 
 unfoldable pub turnFace : List ℕ → List ℕ → List ℕ → List ℕ → List ℕ → ℕ → ℕ × (List ℕ × (List ℕ × List ℕ))
-turnFace r a b t p budget = answered (turnFaceTests r a b t p) (r, (t, p)) (turned (jobIn (wordsIn r)) (wordsIn a) (wordsIn b) (wordsIn t) (wordsIn p) budget)
+turnFace r a b t p budget = answered (turnFaceTests r a b t p) (r, (t, p)) (turnBytes (turnedOf (jobIn (wordsIn r)) (wordsIn a) (wordsIn b) (wordsIn t) (wordsIn p) budget))

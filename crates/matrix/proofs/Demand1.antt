@@ -3,7 +3,7 @@
 use mathlib.Core.Path.{_≡_, sym, _∙_}
 use mathlib.Core.Bool.{Bool, false}
 use mathlib.Core.List.{List, [], _∷_}
-use Prim.Native.Nat.{ℕ, _+_, _^_}
+use Prim.Native.Nat.{ℕ, _^_}
 use lib.Dec.{eqb}
 use lib.ListN.{length}
 use Rattle.buffers.specs.Buffer.{cell, encode}
@@ -27,9 +27,9 @@ use Rattle.matrix.specs.Tally.{tallyMeans}
 use Rattle.matrix.specs.declared.job.Job.{Job}
 use Rattle.matrix.specs.Job.{meant, totalOf}
 use Rattle.matrix.specs.Quote.{quoteTests, quoteMeans}
-use Rattle.matrix.specs.Total.{factorTests, totalTests, totalMeans}
-use Rattle.matrix.specs.Opening.{fittingTests, openingTests, noJob, newJob, openingMeans}
-use Rattle.matrix.specs.Turn.{sizeA, foundTests, turnTests, madeOf, leftOf, onJob, turnMeans}
+use Rattle.matrix.specs.Total.{listTests, totalTests, totalMeans}
+use Rattle.matrix.specs.Opening.{openingTests, noJob, openedOf, openingMeans}
+use Rattle.matrix.specs.Turn.{foundTests, turnTests, turnedOf, turnMeans}
 use Rattle.matrix.specs.Product.{endOf, productMeans}
 use Rattle.steps.specs.Count.{quote}
 use Rattle.requests.proofs.AnswerLaws.{None, Gives, given, gives, first-none, none-first, Exact, exact}
@@ -84,25 +84,21 @@ unfolding quoteMeans quoteTests
 quote-exact x w r n says = exact (quoteTests x w) _ _ (number r) n tt says
 
 pub total-exact : (x : Size) (w : ℕ) (a : List ℕ) (r : Answer) (n : ℕ) → (number r, n) ≡ totalMeans x w a → Exact (totalTests x w a) 0 (totalOf x (meant w) a) (number r) n
-unfolding totalMeans totalTests factorTests faults
+unfolding totalMeans totalTests listTests faults
 total-exact x w a r n says = exact (totalTests x w a) _ _ (number r) n tt says
 
 pub opening-exact : (x y : Size) (w : ℕ) (a b t p : List ℕ) (r : Answer) (o : Job × (List ℕ × List ℕ)) → (number r, o) ≡ openingMeans x y w a b t p
-    → Exact {S = Job × (List ℕ × List ℕ)} (openingTests x y w a b (length t) (length p)) (noJob, (t, p))
-    (newJob x y w, (encode (2 ^ meant w) (y .columns) (λ i j. 0), encode (x .rows) (y .columns) (λ i j. 0))) (number r) o
-unfolding openingMeans openingTests fittingTests faults
+    → Exact {S = Job × (List ℕ × List ℕ)} (openingTests x y w a b (length t) (length p)) (noJob, (t, p)) (openedOf x y w) (number r) o
+unfolding openingMeans openingTests faults
 opening-exact x y w a b t p r o says = exact (openingTests x y w a b (length t) (length p)) _ _ (number r) o tt says
 
 pub turn-exact : (job : Job) (a b t p : List ℕ) (budget : ℕ) (r : Answer) (o : Job × (ℕ × (Bool × (List ℕ × List ℕ)))) → (number r, o) ≡ turnMeans job a b t p budget
-    → Exact {S = Job × (ℕ × (Bool × (List ℕ × List ℕ)))} (turnTests job a b t p) (job, (0, (false, (t, p)))) (
-      onJob job (madeOf job a budget),
-      (madeOf job a budget, (eqb (job .done + madeOf job a budget) (totalOf (sizeA job) (job .width) a), (encode (2 ^ job .width) (job .n) (leftOf job a b t p budget .table), encode (job .m) (job .n) (leftOf job a b t p budget .product)))),
-    ) (number r) o
+    → Exact {S = Job × (ℕ × (Bool × (List ℕ × List ℕ)))} (turnTests job a b t p) (job, (0, (false, (t, p)))) (turnedOf job a b t p budget) (number r) o
 unfolding turnMeans turnTests foundTests faults
 turn-exact job a b t p budget r o says = exact (turnTests job a b t p) _ _ (number r) o tt says
 
 pub product-exact : (x y : Size) (w : ℕ) (a b t p : List ℕ) (r : Answer) (o : List ℕ × List ℕ) → (number r, o) ≡ productMeans x y w a b t p
     → Exact {S = List ℕ × List ℕ} (openingTests x y w a b (length t) (length p)) (t, p)
     (encode (2 ^ meant w) (y .columns) (endOf x y (meant w) a b .table), encode (x .rows) (y .columns) (endOf x y (meant w) a b .product)) (number r) o
-unfolding productMeans openingTests fittingTests faults
+unfolding productMeans openingTests faults
 product-exact x y w a b t p r o says = exact (openingTests x y w a b (length t) (length p)) _ _ (number r) o tt says

@@ -1,12 +1,12 @@
 -- Demand 3, over the statements of opening and turn: for two legal matrices that fit and any width, after any accepted turns with any
 -- budgets the job stands at the smaller of the budgets' sum and the list's length, and its table and product hold exactly what that many
 -- first steps leave. At the end the product is the schoolbook one, and the length never exceeds the quote. Assumes nothing.
-use mathlib.Core.Path.{_≡_, refl, sym, ap, ap₂, subst, _∙_}
+use mathlib.Core.Path.{_≡_, refl, sym, ap, subst, _∙_}
 use mathlib.Core.Bool.{Bool, true}
 use mathlib.Core.List.{List, [], _∷_}
-use Prim.Native.Nat.{ℕ, zero, suc, _+_, _-_, _^_, _≤_, min}
+use Prim.Native.Nat.{ℕ, zero, suc, _+_, _^_, _≤_, min}
 use native.Mathlib.Omega.{arith}
-use lib.Dec.{ltb, eqb}
+use lib.Dec.{eqb}
 use lib.ListN.{length}
 use borrow.Author.Tests.{le-ltb, eq-eqb, ne-eqb}
 use Rattle.cells.specs.Digit.{Matrix}
@@ -18,26 +18,25 @@ use Rattle.requests.specs.declared.Answer.{Answer}
 use Rattle.requests.specs.Answers.{number, first, answered}
 use Rattle.requests.specs.Sizes.{over, faults}
 use Rattle.requests.proofs.SizeLaws.{not-over, not-unfit}
-use Rattle.requests.proofs.AnswerLaws.{none-first, append-none, append-front, later, finished, done-makes}
+use Rattle.requests.proofs.AnswerLaws.{none-first, finished, done-makes}
 use Rattle.cells.specs.Counts.{sum}
 use Rattle.steps.specs.Matrix.{schoolbook}
 use Rattle.steps.specs.Step.{State, run, opening}
 use Rattle.steps.specs.StepList.{steps}
 use Rattle.steps.specs.Count.{quote, total}
-use Rattle.steps.specs.Turn.{after, allBudgets}
+use Rattle.steps.specs.Turn.{after, made, turn, allBudgets}
 use Rattle.steps.proofs.Counts.{total-le, total-small}
 use Rattle.steps.proofs.Product.{steps-right}
 use Rattle.steps.proofs.Running.{run-digits, opening-digits}
 use Rattle.steps.proofs.Same.{SameState}
-use Rattle.steps.proofs.Turns.{resume-same, after-all}
-use Rattle.walk.specs.Due.{due}
+use Rattle.steps.proofs.Turns.{made-done, min-more, after-all, turn-same}
 use Rattle.walk.specs.Ran.{found}
 use Rattle.matrix.specs.declared.job.Job.{Job}
 use Rattle.matrix.specs.Job.{meant, tableSize, productSize, misfit, totalOf}
-use Rattle.matrix.specs.Opening.{fittingTests, openingTests, newJob, openingMeans}
-use Rattle.matrix.specs.Turn.{sizeA, sizeB, foundTests, turnTests, madeOf, leftOf, turnMeans}
+use Rattle.matrix.specs.Opening.{openingTests, newJob, openedOf, openingMeans}
+use Rattle.matrix.specs.Turn.{sizeA, sizeB, foundTests, turnTests, turnedOf, turnMeans}
 use Rattle.matrix.specs.Product.{endOf, productMeans}
-use Rattle.matrix.proofs.JobLaws.{meant-pos, meant-le, Fitting, fitting-ready, fitting-positive, found-positive}
+use Rattle.matrix.proofs.JobLaws.{meant-pos, meant-le, Fitting, opening-ready, turn-none}
 
 -- turns that are given one after another: each is handed the record last answered and the same matrices, table and product, and is accepted
 pub data Turns (a b : List ℕ) : Job → List ℕ → List ℕ → List ℕ → Job → List ℕ → List ℕ → Type 0 where
@@ -68,6 +67,10 @@ module _ (x y : Size) (w : ℕ) (a b : List ℕ) (hm : x .rows ≤ 1024) (hl : x
   -- the list's length
   abbrev pub long : ℕ
   long = total m l k A
+
+  -- the steps that a turn makes after d of them
+  abbrev pub makes : ℕ → ℕ → ℕ
+  makes d budget = made (steps m l k A) d budget
 
   -- the state after the first d steps, and the record and buffers of a job that stands there
   abbrev pub at : ℕ → State
@@ -105,11 +108,7 @@ module _ (x y : Size) (w : ℕ) (a b : List ℕ) (hm : x .rows ≤ 1024) (hl : x
       )
 
   no-test : (d : ℕ) → d ≤ long → first (turnTests (jobAt d) a b (tableAt d) (productAt d)) ≡ 0
-  unfolding turnTests first
-  no-test d h =
-      append-none (foundTests (jobAt d) a b (tableAt d) (productAt d)) _ (found-positive (jobAt d) a b (tableAt d) (productAt d)) (no-fault d)
-      ∙ later (ltb 4294967295 long) 9 ((ltb long d, 7) ∷ []) (le-ltb 4294967295 long (omega (arith, total-small m l k A hm hl (meant-pos w) k8)))
-      ∙ later (ltb long d) 7 [] (le-ltb long d h)
+  no-test d h = turn-none (jobAt d) a b (tableAt d) (productAt d) (no-fault d) (omega (arith, total-small m l k A hm hl (meant-pos w) k8)) h
 
   -- what is found at d is the state at d, within the sizes
   found-at : (d : ℕ) → SameState k m n (found n (tableAt d) (productAt d)) (at d)
@@ -121,19 +120,21 @@ module _ (x y : Size) (w : ℕ) (a b : List ℕ) (hm : x .rows ≤ 1024) (hl : x
         product = λ i j h q. cell-encode m n (at d .product) i j h q (digits .product i j);
       }
 
-  abbrev makes : ℕ → ℕ → ℕ
-  makes d budget = min budget (long - d)
+  -- where a turn leaves a job that stands at d
+  abbrev next : ℕ → ℕ → ℕ
+  next d budget = min (d + budget) long
 
-  -- a turn of a job that stands at d is accepted, and leaves it standing further on
+  -- it is accepted, and leaves the job standing there
   pub turn-at : (d budget : ℕ) → d ≤ long
       → turnMeans (jobAt d) a b (tableAt d) (productAt d) budget
-      ≡ (0, (jobAt (d + makes d budget), (makes d budget, (eqb (d + makes d budget) long, (tableAt (d + makes d budget), productAt (d + makes d budget))))))
-  unfolding turnMeans madeOf leftOf due
+      ≡ (0, (jobAt (next d budget), (makes d budget, (eqb (next d budget) long, (tableAt (next d budget), productAt (next d budget))))))
+  unfolding turnMeans turnedOf turn total
   turn-at d budget h =
-      let S = resume-same k m l n A B B (meant-pos w) (λ i j p q. refl) opening (found n (tableAt d) (productAt d)) d (makes d budget) (found-at d) in
-      sym (finished (turnTests (jobAt d) a b (tableAt d) (productAt d)) _ _ _ (no-test d h)
-      (ap₂ (λ (t p : List ℕ). (jobAt (d + makes d budget), (makes d budget, (eqb (d + makes d budget) long, (t, p)))))
-      (sym (encode-within (2 ^ k) n _ _ (S .table))) (sym (encode-within m n _ _ (S .product)))))
+      let S = turn-same k m l n A B (meant-pos w) opening (found n (tableAt d) (productAt d)) d budget h (found-at d) in
+      let e = made-done (steps m l k A) d budget h in
+      let t = encode-within (2 ^ k) n _ _ (S .table) in
+      let p = encode-within m n _ _ (S .product) in
+      sym (finished (turnTests (jobAt d) a b (tableAt d) (productAt d)) _ _ _ (no-test d h) (sym (λ i. (jobAt (e i), (makes d budget, (eqb (e i) long, (t i, p i)))))))
 
   -- a job that stands at d
   pub record Stands (d : ℕ) (job : Job) (t p : List ℕ) : Type 0 where
@@ -150,32 +151,26 @@ module _ (x y : Size) (w : ℕ) (a b : List ℕ) (hm : x .rows ≤ 1024) (hl : x
 
   -- a turn after the end makes no step
   pub at-end : (budget : ℕ) → turnMeans (jobAt long) a b (tableAt long) (productAt long) budget ≡ (0, (jobAt long, (0, (true, (tableAt long, productAt long)))))
+  unfolding made total
   at-end budget =
       let z : makes long budget ≡ 0 = omega arith in
-      let s : long + 0 ≡ long = omega arith in
+      let s : next long budget ≡ long = omega arith in
       turn-at long budget (omega arith) ∙ rw (z, s, eq-eqb long long refl)
 
   Outcome : Type 0
   Outcome = ℕ × (Job × (ℕ × (Bool × (List ℕ × List ℕ))))
 
-  next-at : (d budget : ℕ) → d ≤ long → d + makes d budget ≡ min (d + budget) long
-  next-at d budget h = omega arith
-
   -- one turn
   one-turn : (d budget : ℕ) (job job₁ : Job) (t p t₁ p₁ : List ℕ) (answer : Answer) (made : ℕ) (ended : Bool) → d ≤ long → Stands d job t p
-      → (number answer, (job₁, (made, (ended, (t₁, p₁))))) ≡ turnMeans job a b t p budget → Stands (min (d + budget) long) job₁ t₁ p₁
+      → (number answer, (job₁, (made, (ended, (t₁, p₁))))) ≡ turnMeans job a b t p budget → Stands (next d budget) job₁ t₁ p₁
   unfolding Outcome
   one-turn d budget job job₁ t p t₁ p₁ answer made ended h S says =
       let e = says ∙ meaning d budget job t p S ∙ turn-at d budget h in
-      subst (λ (j : ℕ). Stands j job₁ t₁ p₁) (next-at d budget h)
-      (record {
+      record {
         record-is = ap (λ (o : Outcome). o .1 .0) e;
         table-is = ap (λ (o : Outcome). o .1 .1 .1 .1 .0) e;
         product-is = ap (λ (o : Outcome). o .1 .1 .1 .1 .1) e;
-      })
-
-  sum-min : (d b c e : ℕ) → min (min (d + b) e + c) e ≡ min (d + (b + c)) e
-  sum-min d b c e = omega arith
+      }
 
   -- any turns
   pub turns-at : (budgets : List ℕ) (d : ℕ) (job job₁ : Job) (t p t₁ p₁ : List ℕ) → d ≤ long → Stands d job t p → Turns a b job t p budgets job₁ t₁ p₁
@@ -183,8 +178,8 @@ module _ (x y : Size) (w : ℕ) (a b : List ℕ) (hm : x .rows ≤ 1024) (hl : x
   unfolding allBudgets
   turns-at [] d job job₁ t p t₁ p₁ h S none = let e : min (d + 0) long ≡ d = omega arith in rw e S
   turns-at (budget ∷ budgets) d job job₁ t p t₁ p₁ h S (more _ answer made ended says ok rest) =
-      subst (λ (j : ℕ). Stands j job₁ t₁ p₁) (sum-min d budget (allBudgets budgets) long)
-      (turns-at budgets (min (d + budget) long) _ job₁ _ _ t₁ p₁ (omega arith) (one-turn d budget job _ t p _ _ answer made ended h S says) rest)
+      subst (λ (j : ℕ). Stands j job₁ t₁ p₁) (min-more d budget (allBudgets budgets) long)
+      (turns-at budgets (next d budget) _ job₁ _ _ t₁ p₁ (omega arith) (one-turn d budget job _ t p _ _ answer made ended h S says) rest)
 
   -- the start
   start : Stands 0 (newJob x y w) (encode (2 ^ k) n (λ i j. 0)) (encode m n (λ i j. 0))
@@ -193,7 +188,7 @@ module _ (x y : Size) (w : ℕ) (a b : List ℕ) (hm : x .rows ≤ 1024) (hl : x
 
   -- these matrices are opened at this width, with any table and product of the right length
   pub opens : (t p : List ℕ) → l ≡ y .rows → length t ≡ words (2 ^ k) n → length p ≡ words m n → openingMeans x y w a b t p ≡ (0, (jobAt 0, (tableAt 0, productAt 0)))
-  unfolding openingMeans openingTests fittingTests misfit faults after run opening
+  unfolding openingMeans openingTests misfit faults after run opening
   opens t p same lt lp =
       let ta = tests-legal m l a LA in
       let LY : Legal (y .rows) n b = rw (← same) LB in
@@ -228,16 +223,12 @@ module _ (x y : Size) (w : ℕ) (a b t p : List ℕ) (r : Answer) (job₀ : Job)
   Left : Type 0
   Left = ℕ × (Job × (List ℕ × List ℕ))
 
-  abbrev new : Job × (List ℕ × List ℕ)
-  new = (newJob x y w, (encode (2 ^ meant w) (y .columns) (λ i j. 0), encode (x .rows) (y .columns) (λ i j. 0)))
-
-  made : (first (openingTests x y w a b (length t) (length p)) ≡ 0) × (_≡_ {A = Job × (List ℕ × List ℕ)} (job₀, (t₀, p₀)) new)
+  as-new : (first (openingTests x y w a b (length t) (length p)) ≡ 0) × ((job₀, (t₀, p₀)) ≡ openedOf x y w)
   unfolding openingMeans
-  made = done-makes (openingTests x y w a b (length t) (length p)) _ new (job₀, (t₀, p₀)) (rw ok at opened)
+  as-new = done-makes (openingTests x y w a b (length t) (length p)) _ (openedOf x y w) (job₀, (t₀, p₀)) (rw ok at opened)
 
   pub facts : Fitting x y w a b (length t) (length p)
-  unfolding openingTests
-  facts = fitting-ready x y w a b (length t) (length p) (append-front (fittingTests x y w a b (length t) (length p)) _ (fitting-positive x y w a b (length t) (length p)) (made .0))
+  facts = opening-ready x y w a b (length t) (length p) (as-new .0)
 
   -- the sizes, the width and the matrices that an accepted opening is of
   abbrev Standing : ℕ → Job → List ℕ → List ℕ → Type 0
@@ -247,9 +238,9 @@ module _ (x y : Size) (w : ℕ) (a b t p : List ℕ) (r : Answer) (job₀ : Job)
   started =
       let S = start x y w a b (facts .m) (facts .l) (facts .n) (facts .width) (facts .left) (facts .right) in
       record {
-        record-is = ap (λ (o : Job × (List ℕ × List ℕ)). o .0) (made .1) ∙ S .record-is;
-        table-is = ap (λ (o : Job × (List ℕ × List ℕ)). o .1 .0) (made .1) ∙ S .table-is;
-        product-is = ap (λ (o : Job × (List ℕ × List ℕ)). o .1 .1) (made .1) ∙ S .product-is;
+        record-is = ap (λ (o : Job × (List ℕ × List ℕ)). o .0) (as-new .1) ∙ S .record-is;
+        table-is = ap (λ (o : Job × (List ℕ × List ℕ)). o .1 .0) (as-new .1) ∙ S .table-is;
+        product-is = ap (λ (o : Job × (List ℕ × List ℕ)). o .1 .1) (as-new .1) ∙ S .product-is;
       }
 
   module _ (budgets : List ℕ) (job₁ : Job) (t₁ p₁ : List ℕ) (turned : Turns a b job₀ t₀ p₀ budgets job₁ t₁ p₁) where

@@ -23,15 +23,15 @@ use Rattle.requests.proofs.ShownOut.{ShownOut, shown-out}
 use Rattle.steps.specs.Step.{lowestBit, cleared, put, apply, run, opening}
 use Rattle.steps.specs.StepList.{unless0, many, each, tableSteps, rowSteps, blockSteps, blocks, blockWidth, steps}
 use Rattle.steps.specs.Count.{quote, total}
-use Rattle.walk.specs.Due.{due}
+use Rattle.steps.specs.Turn.{due, made, turn}
 use Rattle.walk.specs.Ran.{found}
 use Rattle.matrix.specs.declared.job.Job.{Job}
 use Rattle.matrix.specs.Job.{meant, misfit}
 use Rattle.matrix.specs.Quote.{quoteTests, quoteMeans}
-use Rattle.matrix.specs.Total.{factorTests, totalTests, totalMeans}
+use Rattle.matrix.specs.Total.{listTests, totalTests, totalMeans}
 use Rattle.matrix.specs.Opening.{fittingTests, openingTests, openingMeans}
 use Rattle.matrix.specs.Product.{endOf, productMeans}
-use Rattle.matrix.specs.Turn.{foundTests, turnTests, madeOf, leftOf, turnMeans}
+use Rattle.matrix.specs.Turn.{foundTests, turnTests, turnedOf, turnMeans}
 
 abbrev one : Size
 one = record { rows = 1; columns = 1 }
@@ -87,7 +87,7 @@ pub record Sums : Type 0 where
   pub multiplied : (productMeans one one 1 one1 one1 newTable zero1 ≡ (0, (madeTable, one1))) × (productMeans one one 1 zero1 one1 newTable zero1 ≡ (0, (madeTable, zero1)))
 
 pub sums : Sums
-unfolding turnMeans turnTests foundTests madeOf leftOf openingMeans openingTests fittingTests productMeans endOf totalMeans totalTests factorTests quoteMeans quoteTests quote total sum meant misfit due found steps blocks blockWidth blockSteps rowSteps tableSteps each many unless0 bitsOf lowestBit cleared put apply run opening answered first left over unfit faults stray padded any unit sign cell bitAt bit planes wide words encode joined plane tab wordOf unitOf signOf add3 sub3 is trailingZeros
+unfolding turnMeans turnTests foundTests turnedOf turn made openingMeans openingTests fittingTests productMeans endOf totalMeans totalTests listTests quoteMeans quoteTests quote total sum meant misfit due found steps blocks blockWidth blockSteps rowSteps tableSteps each many unless0 bitsOf lowestBit cleared put apply run opening answered first left over unfit faults stray padded any unit sign cell bitAt bit planes wide words encode joined plane tab wordOf unitOf signOf add3 sub3 is trailingZeros
 sums = record { first-step = refl; second-step = refl; both-steps = refl; zero-cell = refl; totals = (refl, refl); quoted = (refl, refl); opened-at = (refl, refl); multiplied = (refl, refl) }
 
 one-zero : one1 ≡ zero1 → ⊥

@@ -1,7 +1,7 @@
 -- What the tests of jobs say where none of them holds. Assumes nothing.
 use mathlib.Core.Path.{_≡_, refl, sym, ap, ap₂, subst, _∙_}
 use mathlib.Core.Bool.{Bool, false, _||_}
-use mathlib.Core.List.{List, [], _++_}
+use mathlib.Core.List.{List, [], _∷_, _++_}
 use Prim.Native.Nat.{ℕ, zero, suc, _+_, _-_, _*_, _^_, _≤_, _<_, min}
 use native.Mathlib.Nat.{mul-le-mul}
 use native.Mathlib.Numerals.{add-one}
@@ -9,7 +9,7 @@ use native.Mathlib.Omega.{arith}
 use lib.Dec.{T, ltb, eqb}
 use native.Mathlib.Decide.{decLt}
 use lib.ListN.{length, getD, List·getD-eq-default}
-use borrow.Author.Tests.{ltb-false, le-ltb, eqb-true, eqb-false, not-false}
+use borrow.Author.Tests.{ltb-false, lt-ltb, le-ltb, eqb-true, eqb-false, not-false}
 use Rattle.cells.proofs.AnyLaws.{or-left, or-right}
 use Rattle.cells.specs.Digit.{Matrix}
 use Rattle.buffers.specs.Buffer.{words, cell, Legal, encode}
@@ -18,24 +18,27 @@ use Rattle.requests.specs.declared.Size.{Size}
 use Rattle.requests.specs.Answers.{first}
 use Rattle.requests.specs.Sizes.{over, unfit, faults}
 use Rattle.requests.proofs.SizeLaws.{over-rows, over-columns, unfit-long}
-use Rattle.requests.proofs.AnswerLaws.{positive, None, first-none, append-given, append-none, later}
+use Rattle.requests.proofs.AnswerLaws.{positive, None, first-none, append-given, append-none, here, later}
 use Rattle.rows.specs.Row.{Written}
 use Rattle.cells.specs.Counts.{sum}
-use Rattle.steps.specs.Step.{Step, State, run, opening}
-use Rattle.steps.specs.StepList.{blocks, blockWidth, steps}
-use Rattle.steps.specs.Count.{quote}
+use Rattle.steps.specs.Step.{Step, run, opening}
+use Rattle.steps.specs.StepList.{each, blocks, blockWidth, blockAt}
+use Rattle.steps.specs.Count.{quote, total}
+use Rattle.steps.specs.Turn.{due, made, turn}
 use Rattle.steps.proofs.Fits.{AllFit}
 use Rattle.steps.proofs.Counts.{quote-le, total-small}
 use Rattle.cells.proofs.SumLaws.{sum-none, sum-last, sum-mono}
 use Rattle.steps.proofs.Same.{SameState, run-same}
-use Rattle.walk.specs.Due.{due}
+use Rattle.walk.specs.declared.place.Standing.{Standing}
+use Rattle.walk.specs.Place.{StandsAt}
 use Rattle.walk.specs.Ran.{found, Ran}
 use Rattle.walk.proofs.CountLaws.{pow-small}
+use Rattle.walk.proofs.PieceLaws.{from-place}
 use Rattle.matrix.specs.declared.job.Job.{Job}
 use Rattle.matrix.specs.Job.{meant, tableSize, productSize, misfit, totalOf, countless}
-use Rattle.matrix.specs.Total.{factorTests}
+use Rattle.matrix.specs.Total.{listTests}
 use Rattle.matrix.specs.Opening.{fittingTests, openingTests}
-use Rattle.matrix.specs.Turn.{sizeA, sizeB, foundTests, madeOf, leftOf, onJob}
+use Rattle.matrix.specs.Turn.{sizeA, sizeB, foundTests, lateTests, turnTests, stepsOf, madeOf, onJob, turnedOf}
 
 pub meant-pos : (w : ℕ) → 0 < meant w
 unfolding meant
@@ -77,16 +80,16 @@ module _ (x y : Size) (w a b t p : ℕ) (h : misfit x y w a b t p ≡ false) whe
   pub fit-product : unfit (productSize x y) p ≡ false
   fit-product = or-right (unfit (tableSize y w) t) _ after-b
 
-pub record Factor (x : Size) (w : ℕ) (a : List ℕ) : Type 0 where
+pub record Countable (x : Size) (w : ℕ) (a : List ℕ) : Type 0 where
   pub rows : x .rows ≤ 1024
   pub columns : x .columns ≤ 1024
   pub width : w ≤ 8
   pub legal : Legal (x .rows) (x .columns) a
 
-pub factor-ready : (x : Size) (w : ℕ) (a : List ℕ) → first (factorTests x w a) ≡ 0 → Factor x w a
-unfolding factorTests faults
-factor-ready x w a z =
-    let t : None (factorTests x w a) = first-none (factorTests x w a) tt z in
+pub list-ready : (x : Size) (w : ℕ) (a : List ℕ) → first (listTests x w a) ≡ 0 → Countable x w a
+unfolding listTests faults
+list-ready x w a z =
+    let t : None (listTests x w a) = first-none (listTests x w a) tt z in
     record {
       rows = over-rows x (t .0);
       columns = over-columns x (t .0);
@@ -124,7 +127,7 @@ fitting-ready x y w a b t p z =
       product = unfit-long (productSize x y) p (fit-product x y (meant w) (length a) (length b) t p lengths);
     }
 
-pub record Standing (job : Job) (a b t p : List ℕ) : Type 0 where
+pub record Ready (job : Job) (a b t p : List ℕ) : Type 0 where
   pub m : job .m ≤ 1024
   pub l : job .l ≤ 1024
   pub n : job .n ≤ 1024
@@ -135,7 +138,7 @@ pub record Standing (job : Job) (a b t p : List ℕ) : Type 0 where
   pub table : Legal (2 ^ job .width) (job .n) t
   pub product : Legal (job .m) (job .n) p
 
-pub standing-ready : (job : Job) (a b t p : List ℕ) → first (foundTests job a b t p) ≡ 0 → Standing job a b t p
+pub standing-ready : (job : Job) (a b t p : List ℕ) → first (foundTests job a b t p) ≡ 0 → Ready job a b t p
 unfolding foundTests faults
 standing-ready job a b t p z =
     let h : None (foundTests job a b t p) = first-none (foundTests job a b t p) tt z in
@@ -166,9 +169,9 @@ meant-some (suc w) ne = refl
 
 -- ---- positive numbers alone stand in the lists
 
-pub factor-positive : (x : Size) (w : ℕ) (a : List ℕ) → T (positive (factorTests x w a))
-unfolding factorTests faults
-factor-positive x w a = tt
+pub list-positive : (x : Size) (w : ℕ) (a : List ℕ) → T (positive (listTests x w a))
+unfolding listTests faults
+list-positive x w a = tt
 
 pub fitting-positive : (x y : Size) (w : ℕ) (a b : List ℕ) (t p : ℕ) → T (positive (fittingTests x y w a b t p))
 unfolding fittingTests faults
@@ -176,16 +179,19 @@ fitting-positive x y w a b t p = tt
 
 -- within the sizes no list is too long to count
 pub opening-first : (x y : Size) (w : ℕ) (a b : List ℕ) (t p : ℕ) → first (openingTests x y w a b t p) ≡ first (fittingTests x y w a b t p)
-unfolding openingTests first
+unfolding openingTests fittingTests first
 opening-first x y w a b t p = go (first (fittingTests x y w a b t p)) refl
   where
-    go : (n : ℕ) → first (fittingTests x y w a b t p) ≡ n → first (fittingTests x y w a b t p ++ countless (totalOf x (meant w) a)) ≡ first (fittingTests x y w a b t p)
+    go : (n : ℕ) → first (fittingTests x y w a b t p) ≡ n → first (fittingTests x y w a b t p ++ countless x (meant w) a) ≡ first (fittingTests x y w a b t p)
     go zero e =
         let r = fitting-ready x y w a b t p e in
-        append-none (fittingTests x y w a b t p) (countless (totalOf x (meant w) a)) (fitting-positive x y w a b t p) e
+        append-none (fittingTests x y w a b t p) (countless x (meant w) a) (fitting-positive x y w a b t p) e
         ∙ later (ltb 4294967295 (totalOf x (meant w) a)) 9 [] (le-ltb 4294967295 (totalOf x (meant w) a) (omega (arith, total-small (x .rows) (x .columns) (meant w) (cell (x .columns) a) (r .m) (r .l) (meant-pos w) (meant-le w (r .width)))))
         ∙ sym e
-    go (suc n) e = append-given (fittingTests x y w a b t p) (countless (totalOf x (meant w) a)) (λ z. omega (arith, e, z))
+    go (suc n) e = append-given (fittingTests x y w a b t p) (countless x (meant w) a) (λ z. omega (arith, e, z))
+
+pub opening-ready : (x y : Size) (w : ℕ) (a b : List ℕ) (t p : ℕ) → first (openingTests x y w a b t p) ≡ 0 → Fitting x y w a b t p
+opening-ready x y w a b t p z = fitting-ready x y w a b t p (sym (opening-first x y w a b t p) ∙ z)
 
 pub found-positive : (job : Job) (a b t p : List ℕ) → T (positive (foundTests job a b t p))
 unfolding foundTests faults
@@ -246,31 +252,42 @@ pub quote-all : (m l k b n : ℕ) → b ≡ blocks l k → n ≡ sum 0 b (quoteA
 unfolding quote
 quote-all m l k b n eb en = rw eb at en
 
--- ---- what a turn answers where it is done
+-- ---- what a turn answers
 
-module _ (job : Job) (a b t p t′ p′ : List ℕ) (budget n count : ℕ) where
-  abbrev Outcome : Type 0
-  Outcome = Job × (ℕ × (Bool × (List ℕ × List ℕ)))
+module _ (job : Job) (a b t p : List ℕ) where
+  abbrev count : ℕ
+  count = totalOf (sizeA job) (job .width) a
 
-  ends : ℕ → State
-  ends n = run (cell (job .n) b) (due (job .done) n (steps (job .m) (job .l) (job .width) (cell (job .l) a))) (found (job .n) t p)
+  pub turn-given : (n : ℕ) → n ≡ first (foundTests job a b t p) → (n ≡ 0 → ⊥) → first (turnTests job a b t p) ≡ n
+  unfolding turnTests
+  turn-given n e ne = append-given (foundTests job a b t p) (lateTests job a) (λ z. ne (e ∙ z)) ∙ sym e
 
-  outcome : ℕ → ℕ → Outcome
-  outcome n count = (onJob job n, (n, (eqb (job .done + n) count, (encode (2 ^ job .width) (job .n) (ends n .table), encode (job .m) (job .n) (ends n .product)))))
+  module _ (none : first (foundTests job a b t p) ≡ 0) where
+    past-found : first (turnTests job a b t p) ≡ first (lateTests job a)
+    unfolding turnTests
+    past-found = append-none (foundTests job a b t p) (lateTests job a) (found-positive job a b t p) none
 
-  pub turn-done : n ≡ min budget (count - job .done) → count ≡ totalOf (sizeA job) (job .width) a
-      → Ran (job .width) (job .m) (job .n) (cell (job .n) b) (due (job .done) n (steps (job .m) (job .l) (job .width) (cell (job .l) a))) t p t′ p′
-      → _≡_ {A = Outcome} (onJob job n, (n, (eqb (job .done + n) count, (t′, p′)))) (
-        onJob job (madeOf job a budget),
-        (
-          madeOf job a budget,
-          (
-            eqb (job .done + madeOf job a budget) (totalOf (sizeA job) (job .width) a),
-            (encode (2 ^ job .width) (job .n) (leftOf job a b t p budget .table), encode (job .m) (job .n) (leftOf job a b t p budget .product)),
-          ),
-        ),
-      )
-  unfolding leftOf madeOf outcome ends
-  turn-done en ec R =
-      ap₂ (λ (t p : List ℕ). (onJob job n, (n, (eqb (job .done + n) count, (t, p))))) (R .table) (R .product)
-      ∙ ap₂ outcome (en ∙ ap (λ (c : ℕ). min budget (c - job .done)) ec) ec
+    pub turn-countless : 4294967295 < count → first (turnTests job a b t p) ≡ 9
+    turn-countless h = past-found ∙ here (ltb 4294967295 count) 9 _ (lt-ltb 4294967295 count h)
+
+    past-count : count ≤ 4294967295 → first (turnTests job a b t p) ≡ first ((ltb count (job .done), 7) ∷ [])
+    past-count h = past-found ∙ later (ltb 4294967295 count) 9 _ (le-ltb 4294967295 count h)
+
+    pub turn-exceeds : count ≤ 4294967295 → count < job .done → first (turnTests job a b t p) ≡ 7
+    turn-exceeds h o = past-count h ∙ here (ltb count (job .done)) 7 [] (lt-ltb count (job .done) o)
+
+    pub turn-none : count ≤ 4294967295 → job .done ≤ count → first (turnTests job a b t p) ≡ 0
+    unfolding first
+    turn-none h o = past-count h ∙ later (ltb count (job .done)) 7 [] (le-ltb count (job .done) o)
+
+-- n steps from the place where the job stands are the turn
+pub turn-done : (job : Job) (a b t p t′ p′ : List ℕ) (budget n : ℕ) (at : Standing) → StandsAt (job .m) (job .l) (job .width) (cell (job .l) a) (job .done) at → n ≡ min budget (at .total - job .done)
+    → Ran (job .width) (job .m) (job .n) (cell (job .n) b) (due (job .done - at .before) n (each (at .block) (blocks (job .l) (job .width)) (blockAt (job .m) (job .l) (job .width) (cell (job .l) a)))) t p t′ p′
+    → _≡_ {A = Job × (ℕ × (Bool × (List ℕ × List ℕ)))} (onJob job (job .done + n), (n, (eqb (job .done + n) (at .total), (t′, p′)))) (turnedOf job a b t p budget)
+unfolding turnedOf turn made total
+turn-done job a b t p t′ p′ budget n at S en R =
+    let em : n ≡ madeOf job a budget = en ∙ ap (λ (c : ℕ). min budget (c - job .done)) (S .0) in
+    let seam = from-place (job .m) (job .l) (job .width) (cell (job .l) a) (at .block) (at .before) (job .done) n (S .3) (S .1) (S .2) in
+    let R′ =
+    subst (λ (ps : List Step). Ran (job .width) (job .m) (job .n) (cell (job .n) b) ps t p t′ p′) (sym seam ∙ ap (λ (c : ℕ). due (job .done) c (stepsOf job a)) em) R in
+    λ i. (onJob job (job .done + em i), (em i, (eqb (job .done + em i) (S .0 i), (R′ .table i, R′ .product i))))

@@ -1,27 +1,30 @@
 -- What `opening` answers and leaves: a record, and zero in table and product. Assumes nothing.
 use mathlib.Core.Bool.{_||_}
-use mathlib.Core.List.{List, _∷_, _++_}
+use mathlib.Core.List.{List, [], _∷_, _++_}
 use Prim.Native.Nat.{ℕ, _^_}
 use lib.Dec.{ltb}
 use lib.ListN.{length}
 use Rattle.buffers.specs.Buffer.{encode}
 use Rattle.requests.specs.declared.Size.{Size}
 use Rattle.requests.specs.Answers.{Tests, answered}
-use Rattle.requests.specs.Sizes.{over, faults}
+use Rattle.requests.specs.Sizes.{over}
 use Rattle.matrix.specs.declared.job.Job.{Job}
-use Rattle.matrix.specs.Job.{meant, misfit, totalOf, countless, unmatched}
+use Rattle.matrix.specs.Job.{meant, unmatched, misfit, countless, pairFaults}
 
--- the tests of sizes, width, lengths and cells; t and p are how many words table and product have
+-- the tests of sizes, width and lengths; t and p are how many words table and product have
+abbrev pub sizeTests : Size → Size → ℕ → List ℕ → List ℕ → ℕ → ℕ → Tests
+sizeTests x y width a b t p = (over x || over y, 1) ∷ (unmatched x y, 2) ∷ (ltb 8 width, 3) ∷ (misfit x y (meant width) (length a) (length b) t p, 4) ∷ []
+
+-- .. and cells
 unfoldable pub fittingTests : Size → Size → ℕ → List ℕ → List ℕ → ℕ → ℕ → Tests
-fittingTests x y width a b t p =
-    (over x || over y, 1)
-    ∷ (unmatched x y, 2)
-    ∷ (ltb 8 width, 3)
-    ∷ (misfit x y (meant width) (length a) (length b) t p, 4)
-    ∷ (faults x a ++ faults y b)
+fittingTests x y width a b t p = sizeTests x y width a b t p ++ pairFaults x y a b
+
+-- the tests of the words of A and B: their cells, and then the total
+abbrev pub wordTests : Size → Size → ℕ → List ℕ → List ℕ → Tests
+wordTests x y width a b = pairFaults x y a b ++ countless x (meant width) a
 
 unfoldable pub openingTests : Size → Size → ℕ → List ℕ → List ℕ → ℕ → ℕ → Tests
-openingTests x y width a b t p = fittingTests x y width a b t p ++ countless (totalOf x (meant width) a)
+openingTests x y width a b t p = sizeTests x y width a b t p ++ wordTests x y width a b
 
 abbrev pub noJob : Job
 noJob = record { m = 0; l = 0; n = 0; width = 0; done = 0 }
@@ -30,7 +33,8 @@ abbrev pub newJob : Size → Size → ℕ → Job
 newJob x y width = record { m = x .rows; l = x .columns; n = y .columns; width = meant width; done = 0 }
 
 -- the record, and then table and product
+abbrev pub openedOf : Size → Size → ℕ → Job × (List ℕ × List ℕ)
+openedOf x y width = (newJob x y width, (encode (2 ^ meant width) (y .columns) (λ i j. 0), encode (x .rows) (y .columns) (λ i j. 0)))
+
 unfoldable pub openingMeans : Size → Size → ℕ → List ℕ → List ℕ → List ℕ → List ℕ → ℕ × (Job × (List ℕ × List ℕ))
-openingMeans x y width a b t p =
-    answered (openingTests x y width a b (length t) (length p)) (noJob, (t, p))
-    (newJob x y width, (encode (2 ^ meant width) (y .columns) (λ i j. 0), encode (x .rows) (y .columns) (λ i j. 0)))
+openingMeans x y width a b t p = answered (openingTests x y width a b (length t) (length p)) (noJob, (t, p)) (openedOf x y width)

@@ -8,12 +8,12 @@ use Rattle.requests.specs.Answers.{Tests, answered}
 use Rattle.requests.specs.Sizes.{over, unfit, faults}
 use Rattle.matrix.specs.Job.{meant, totalOf, countless}
 
--- the tests of the sizes, the width and A
-unfoldable pub factorTests : Size → ℕ → List ℕ → Tests
-factorTests x width a = (over x, 1) ∷ (ltb 8 width, 3) ∷ (unfit x (length a), 4) ∷ faults x a
+-- the tests of what the list depends on: the sizes, the width and A
+unfoldable pub listTests : Size → ℕ → List ℕ → Tests
+listTests x width a = (over x, 1) ∷ (ltb 8 width, 3) ∷ (unfit x (length a), 4) ∷ faults x a
 
 unfoldable pub totalTests : Size → ℕ → List ℕ → Tests
-totalTests x width a = factorTests x width a ++ countless (totalOf x (meant width) a)
+totalTests x width a = listTests x width a ++ countless x (meant width) a
 
 unfoldable pub totalMeans : Size → ℕ → List ℕ → ℕ × ℕ
 totalMeans x width a = answered (totalTests x width a) 0 (totalOf x (meant width) a)

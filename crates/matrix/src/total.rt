@@ -1,7 +1,7 @@
 // The exact total: the length of the list of row steps.
 ghost use mathlib.Core.Path.{_≡_};
 ghost use Rattle.requests.specs.Answers.{number, first};
-ghost use Rattle.matrix.specs.Total.{factorTests, totalMeans};
+ghost use Rattle.matrix.specs.Total.{listTests, totalMeans};
 use super::job::meant;
 use super::quote::Counted;
 use requests::Answer;
@@ -13,7 +13,7 @@ use requests::sizes::unfit;
 use walk::place::place;
 
 fn judged(x: Size, width: u64, a: &[u64]) -> Answer
-    ensures { λ r. ⌜ number r ≡ first (factorTests x width (now (a .entry))) ⌝ }
+    ensures { λ r. ⌜ number r ≡ first (listTests x width (now (a .entry))) ⌝ }
 {
     if over(x) {
         return Answer::TooLarge;

@@ -1,13 +1,14 @@
 // A turn: the next steps of a job's list, as many as the budget allows or until the list ends.
 ghost use mathlib.Core.Path.{_≡_};
 ghost use mathlib.Core.Bool.{false, _||_};
-ghost use mathlib.Core.List.{_++_};
-ghost use Prim.Native.Nat.{ℕ, min};
+ghost use Prim.Native.Nat.{ℕ, _≤_};
 ghost use lib.ListN.{length};
+ghost use Rattle.buffers.specs.Buffer.{cell};
 ghost use Rattle.requests.specs.Answers.{number, first};
-ghost use Rattle.requests.specs.Sizes.{over, unfit, faults};
-ghost use Rattle.matrix.specs.Job.{unwide};
-ghost use Rattle.matrix.specs.Turn.{foundTests, turnMeans};
+ghost use Rattle.requests.specs.Sizes.{over, unfit};
+ghost use Rattle.walk.specs.Place.{StandsAt};
+ghost use Rattle.matrix.specs.Job.{unwide, pairFaults};
+ghost use Rattle.matrix.specs.Turn.{foundTests, turnedOf, turnMeans};
 use super::job::Job;
 use super::job::misfit;
 use requests::Answer;
@@ -19,6 +20,7 @@ use walk::Left;
 use walk::Shape;
 use walk::blocks::blocks_part;
 use walk::blocks::least;
+use walk::place::Standing;
 use walk::place::place;
 
 pub struct Turned {
@@ -41,7 +43,7 @@ pub fn unwide(width: u64) -> bool
 // The faults of two buffers of the right length, the first one's first.
 fn either_fault(x: Size, y: Size, a: &[u64], b: &[u64]) -> Answer
     requires { ⌜ (over x ≡ false) × (over y ≡ false) × (unfit x (length (now a)) ≡ false) × (unfit y (length (now b)) ≡ false) ⌝ }
-    ensures { λ r. ⌜ number r ≡ first (faults x (now (a .entry)) ++ faults y (now (b .entry))) ⌝ }
+    ensures { λ r. ⌜ number r ≡ first (pairFaults x y (now (a .entry)) (now (b .entry))) ⌝ }
 {
     let f = fault(x, a);
     if number(f) != 0 {
@@ -99,6 +101,41 @@ fn refused(job: Job, answer: Answer) -> Turned
     }
 }
 
+// An accepted turn: the steps that it makes, from the place where the job stands.
+fn accepted(
+    job: Job,
+    a: &[u64],
+    b: &[u64],
+    table: &mut [u64],
+    product: &mut [u64],
+    at: Standing,
+    budget: u32,
+) -> Turned
+    requires { ⌜ (first (foundTests job (now a) (now b) (now table) (now product)) ≡ 0) × StandsAt (job .m) (job .l) (job .width) (cell (job .l) (now a)) (job .done) at × (at .total ≤ 4294967295) × (job .done ≤ at .total) ⌝ }
+    ensures { λ r. ⌜ (number (r .answer) ≡ 0) × ((r .job, (r .made, (r .finished, (now (table .exit), now (product .exit))))) ≡ turnedOf job (now (a .entry)) (now (b .entry)) (now (table .entry)) (now (product .entry)) budget) ⌝ }
+{
+    let made = least(budget as u64, at.total - job.done);
+    let shape = Shape {
+        m: job.m as usize,
+        l: job.l as usize,
+        n: job.n as usize,
+        width: job.width as usize,
+    };
+    let left = Left {
+        skip: job.done - at.before,
+        budget: made,
+    };
+    blocks_part(table, product, a, b, shape, at.block as usize, left);
+    let mut next = job;
+    next.done = job.done + made;
+    Turned {
+        answer: Answer::Done,
+        job: next,
+        made: made,
+        finished: next.done == at.total,
+    }
+}
+
 pub fn turn(
     job: Job,
     a: &[u64],
@@ -113,38 +150,18 @@ pub fn turn(
     if number(f) != 0 {
         return refused(job, f);
     }
-    let shape = Shape {
-        m: job.m as usize,
-        l: job.l as usize,
-        n: job.n as usize,
-        width: job.width as usize,
-    };
-    let done = job.done;
-    let at = place(a, shape.m, shape.l, shape.width, done);
-    let total = at.total;
-    if total > 4294967295 {
+    let at = place(
+        a,
+        job.m as usize,
+        job.l as usize,
+        job.width as usize,
+        job.done,
+    );
+    if at.total > 4294967295 {
         return refused(job, Answer::TotalExceeds);
     }
-    if done > total {
+    if job.done > at.total {
         return refused(job, Answer::StepsExceed);
     }
-    let made = least(budget as u64, total - done);
-    let left = Left {
-        skip: done - at.before,
-        budget: made,
-    };
-    blocks_part(table, product, a, b, shape, at.block as usize, left);
-    let next = Job {
-        m: job.m,
-        l: job.l,
-        n: job.n,
-        width: job.width,
-        done: done + made,
-    };
-    Turned {
-        answer: Answer::Done,
-        job: next,
-        made: made,
-        finished: done + made == total,
-    }
+    accepted(job, a, b, table, product, at, budget)
 }

@@ -168,8 +168,14 @@ named-number AboveLimit = refl
 pub number-same : (a b : Answer) → number a ≡ number b → a ≡ b
 number-same a b e = sym (named-number a) ∙ ap named e ∙ named-number b
 
--- an outcome is an answer and what is left; a statement is what its number and what is left equal
+-- an outcome is a number and what is left; a statement is what they equal
+pub numbers-coincide : {S : Type 0} (means : ℕ × S) (m n : ℕ) (s t : S) → (m, s) ≡ means → (n, t) ≡ means → (m ≡ n) × (s ≡ t)
+numbers-coincide {S = S} means m n s t p q =
+    let e : _≡_ {A = ℕ × S} (m, s) (n, t) = p ∙ sym q in
+    (ap (λ (o : ℕ × S). o .0) e, ap (λ (o : ℕ × S). o .1) e)
+
+-- the same of an answer by its number
 pub coincide : {S : Type 0} (means : ℕ × S) (a b : Answer) (s t : S) → (number a, s) ≡ means → (number b, t) ≡ means → (a ≡ b) × (s ≡ t)
-coincide {S = S} means a b s t p q =
-    let e : _≡_ {A = ℕ × S} (number a, s) (number b, t) = p ∙ sym q in
-    (number-same a b (ap (λ (o : ℕ × S). o .0) e), ap (λ (o : ℕ × S). o .1) e)
+coincide means a b s t p q =
+    let e = numbers-coincide means (number a) (number b) s t p q in
+    (number-same a b (e .0), e .1)

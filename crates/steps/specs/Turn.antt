@@ -9,31 +9,35 @@ use Rattle.steps.specs.Step.{Step, State, run}
 unfoldable pub after : Matrix → List Step → State → ℕ → State
 after B ps st j = run B (take j ps) st
 
+-- the steps that are due: those after the first `skip`, and no more than `budget` of them
+unfoldable pub due : ℕ → ℕ → List Step → List Step
+due skip budget ps = take budget (drop skip ps)
+
 -- how many steps a turn makes: as many as the budget allows, or until the list ends
 unfoldable pub made : List Step → ℕ → ℕ → ℕ
 made ps done budget = min budget (length ps - done)
 
--- what turns change of a job
-pub record Job : Type 0 where
+-- where a list of steps stands: the steps done, and the state
+pub record Place : Type 0 where
   pub done : ℕ
   pub state : State
 
 -- the next steps of the list, on the state as found
-unfoldable pub turn : Matrix → List Step → ℕ → Job → Job
-turn B ps budget job = record {
-  done = job .done + made ps (job .done) budget;
-  state = run B (take (made ps (job .done) budget) (drop (job .done) ps)) (job .state);
+unfoldable pub turn : Matrix → List Step → ℕ → Place → Place
+turn B ps budget at = record {
+  done = at .done + made ps (at .done) budget;
+  state = run B (due (at .done) (made ps (at .done) budget) ps) (at .state);
 }
 
 -- a turn for each budget
-unfoldable pub turns : Matrix → List Step → List ℕ → Job → Job
-turns B ps [] job = job
-turns B ps (budget ∷ budgets) job = turns B ps budgets (turn B ps budget job)
+unfoldable pub turns : Matrix → List Step → List ℕ → Place → Place
+turns B ps [] at = at
+turns B ps (budget ∷ budgets) at = turns B ps budgets (turn B ps budget at)
 
 unfoldable pub allBudgets : List ℕ → ℕ
 allBudgets [] = 0
 allBudgets (budget ∷ budgets) = budget + allBudgets budgets
 
--- the job that has done the first j steps from a state
-unfoldable pub jobAt : Matrix → List Step → State → ℕ → Job
-jobAt B ps st j = record { done = j; state = after B ps st j }
+-- after the first j steps from a state
+unfoldable pub placeAt : Matrix → List Step → State → ℕ → Place
+placeAt B ps st j = record { done = j; state = after B ps st j }

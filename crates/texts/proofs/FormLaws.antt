@@ -13,7 +13,7 @@ use Rattle.requests.proofs.AnswerLaws.{here, later, append-given, append-none}
 use Rattle.frames.specs.Header.{readHeaderTests}
 use Rattle.texts.specs.MatrixText.{sizeIn, wordsIn, restOf, headTests, matrixTests}
 use Rattle.texts.specs.Multiply.{formTests}
-use Rattle.texts.specs.Found.{Found, Factors}
+use Rattle.texts.specs.Found.{Found, Matrices}
 use Rattle.texts.proofs.LaidLaws.{laid-front}
 use Rattle.texts.proofs.TextLaws.{words-long}
 
@@ -65,8 +65,8 @@ module _ (text : List ℕ) (r₁ c₁ e₁ r₂ c₂ e₂ : ℕ) (a a₁ b b₁ 
   pub rest-length : length (restOf (restOf text)) ≡ length text - e₂
   rest-length = ap (λ (t : List ℕ). length (restOf t)) (sym (F .rest)) ∙ ap length (sym (G .rest)) ∙ length-drop e₂ text
 
-  pub factors-are : Factors text (record { rows = r₁; columns = c₁ }) (record { rows = r₂; columns = c₂ }) a₁ b₁
-  factors-are = record {
+  pub matrices-are : Matrices text (record { rows = r₁; columns = c₁ }) (record { rows = r₂; columns = c₂ }) a₁ b₁
+  matrices-are = record {
     x-is = size-is text 0 r₁ c₁ e₁ a a₁ F;
     y-is = size-is text e₁ r₂ c₂ e₂ b b₁ G ∙ ap sizeIn (F .rest);
     x-rows = F .few;

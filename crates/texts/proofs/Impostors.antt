@@ -18,7 +18,7 @@ use Rattle.frames.specs.Line.{hexOf, valueOf, undigit, unframed}
 use Rattle.frames.specs.Header.{headerOf, sizeOf, readHeaderTests}
 use Rattle.frames.specs.RowLine.{lineLong}
 use Rattle.texts.specs.MatrixText.{misread, wordsRead, linesOf, sizeIn, wordsIn, restOf, above, headTests, matrixTests}
-use Rattle.texts.specs.Multiply.{formTests, factorTests, multiplyTests, framesOf, productText, answerText, multiplyText, laid, placed, multiplyMeans}
+use Rattle.texts.specs.Multiply.{formTests, productTests, multiplyTests, framesOf, productText, answerText, multiplyText, laid, placed, multiplyMeans}
 
 -- a refusal has eleven bytes (LaidLaws: refusal-long); short is 0 for more
 abbrev short : ℕ → ℕ
@@ -35,7 +35,7 @@ abbrev means : List ℕ → List ℕ → ℕ × List ℕ
 means out text = (short (multiplyMeans text out .0), multiplyMeans text out .1)
 
 texts : (means (printed 48) (factors 48) ≡ (0, printed 48)) × (means (printed 48) (factors 49) ≡ (0, printed 49))
-unfolding multiplyMeans placed laid multiplyText answerText productText framesOf multiplyTests factorTests formTests matrixTests headTests above restOf wordsIn sizeIn linesOf wordsRead misread lineLong readHeaderTests sizeOf headerOf unframed undigit valueOf hexOf nibble byteOf digitOf steps blocks each many meant total faults over first padded stray encode plane joined tab words wide planes any
+unfolding multiplyMeans placed laid multiplyText answerText productText framesOf multiplyTests productTests formTests matrixTests headTests above restOf wordsIn sizeIn linesOf wordsRead misread lineLong readHeaderTests sizeOf headerOf unframed undigit valueOf hexOf nibble byteOf digitOf steps blocks each many meant total faults over first padded stray encode plane joined tab words wide planes any
 texts = (refl, refl)
 
 pub multiply-shown-out : ShownOut {X = List ℕ} {I = List ℕ} {S = List ℕ} short means

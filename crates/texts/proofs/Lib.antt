@@ -3,7 +3,7 @@ pub mod LaidLaws
 pub mod TextLaws
 pub mod FoundLaws
 pub mod FramesLaws
-pub mod FactorLaws
+pub mod ProductLaws
 pub mod FormLaws
 pub mod MultiplyLaws
 pub mod Outcomes

@@ -20,7 +20,7 @@ use Rattle.frames.specs.RowLine.{lineLong, wordsOf}
 use Rattle.steps.specs.Matrix.{schoolbook}
 use Rattle.matrix.specs.Job.{meant, productSize, totalOf}
 use Rattle.texts.specs.MatrixText.{lineAt, misread, wordsRead, sizeIn, wordsIn, restOf, above, headTests, matrixTests}
-use Rattle.texts.specs.Multiply.{formTests, factorTests, multiplyTests, refusal, productText, answerText, multiplyText}
+use Rattle.texts.specs.Multiply.{formTests, productTests, multiplyTests, refusal, productText, answerText, multiplyText}
 use Rattle.texts.proofs.LaidLaws.{refusal-long}
 use Rattle.texts.proofs.TextLaws.{few-words}
 use Rattle.texts.proofs.FramesLaws.{frames-long}
@@ -163,7 +163,7 @@ second-passes text h =
 
 -- what is printed for a text of the form, and for another
 answer : Size → Size → List ℕ → List ℕ → List ℕ
-answer x y a b = answerText (first (factorTests x y a b)) (productText x y a b)
+answer x y a b = answerText (first (productTests x y a b)) (productText x y a b)
 
 answer-of : (text : List ℕ) → first (formTests text) ≡ 0 → multiplyText text ≡ answer (sizeIn text) (sizeIn (restOf text)) (wordsIn text) (wordsIn (restOf text))
 unfolding answer multiplyText multiplyTests formTests matrixTests headTests readHeaderTests

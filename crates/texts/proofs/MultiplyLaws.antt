@@ -14,7 +14,7 @@ use Rattle.steps.specs.Matrix.{schoolbook}
 use Rattle.matrix.specs.Job.{meant, productSize, totalOf}
 use Rattle.frames.specs.Header.{readHeaderTests}
 use Rattle.texts.specs.MatrixText.{sizeIn, wordsIn, restOf, headTests, matrixTests}
-use Rattle.texts.specs.Multiply.{formTests, factorTests, multiplyTests, refusal, framesOf, productText, answerText, multiplyText, laid, placed, multiplyMeans}
+use Rattle.texts.specs.Multiply.{formTests, productTests, multiplyTests, refusal, framesOf, productText, answerText, multiplyText, laid, placed, multiplyMeans}
 
 -- a text in a buffer
 abbrev pub printed : List ℕ → List ℕ → ℕ × List ℕ
@@ -30,15 +30,15 @@ unfolding multiplyTests
 form-refused text n ne e = e ∙ sym (append-given (formTests text) _ (λ z. ne (e ∙ z)))
 
 module _ (text : List ℕ) (x y : Size) (a b : List ℕ) (form : 0 ≡ first (formTests text)) (ex : x ≡ sizeIn text) (ey : y ≡ sizeIn (restOf text)) (ea : a ≡ wordsIn text) (eb : b ≡ wordsIn (restOf text)) where
-  pub factor-tests : first (factorTests x y a b) ≡ first (multiplyTests text)
+  pub multiply-tests : first (productTests x y a b) ≡ first (multiplyTests text)
   unfolding multiplyTests formTests matrixTests headTests readHeaderTests
-  factor-tests = rw (ex, ey, ea, eb) (sym (append-none (formTests text) _ tt (sym form)))
+  multiply-tests = rw (ex, ey, ea, eb) (sym (append-none (formTests text) _ tt (sym form)))
 
-  pub product-printed : (out ws : List ℕ) (total : ℕ) → 0 ≡ first (factorTests x y a b) → total ≡ totalOf x (meant 0) a → ws ≡ encode (x .rows) (y .columns) (schoolbook (x .columns) (cell (x .columns) a) (cell (y .columns) b))
+  pub product-printed : (out ws : List ℕ) (total : ℕ) → 0 ≡ first (productTests x y a b) → total ≡ totalOf x (meant 0) a → ws ≡ encode (x .rows) (y .columns) (schoolbook (x .columns) (cell (x .columns) a) (cell (y .columns) b))
       → printed (framesOf (productSize x y) ws total) out ≡ multiplyMeans text out
   unfolding multiplyMeans multiplyText answerText productText
   product-printed out ws total none et ew =
-      let e : first (multiplyTests text) ≡ 0 = sym (none ∙ factor-tests) in
+      let e : first (multiplyTests text) ≡ 0 = sym (none ∙ multiply-tests) in
       rw (e, et, ew, ← ex, ← ey, ← ea, ← eb)
 
 -- what is printed lies within its buffer

@@ -19,7 +19,7 @@ use Rattle.frames.specs.Line.{hexOf, valueOf, undigit, unframed}
 use Rattle.frames.specs.Header.{headerOf, sizeOf, readHeaderTests}
 use Rattle.frames.specs.RowLine.{lineLong, lineOf, wordsOf}
 use Rattle.texts.specs.MatrixText.{lineAt, misread, wordsRead, linesOf, sizeIn, wordsIn, restOf, above, headTests, matrixTests}
-use Rattle.texts.specs.Multiply.{formTests, factorTests, multiplyTests, refusal, framesOf, productText, answerText, multiplyText}
+use Rattle.texts.specs.Multiply.{formTests, productTests, multiplyTests, refusal, framesOf, productText, answerText, multiplyText}
 
 input : List ℕ
 input =
@@ -39,5 +39,5 @@ output =
     48 ∷ 48 ∷ 48 ∷ 48 ∷ 48 ∷ 48 ∷ 48 ∷ 98 ∷ 10 ∷ []
 
 sample : multiplyText input ≡ output
-unfolding input output multiplyText answerText productText framesOf refusal multiplyTests factorTests formTests matrixTests headTests above restOf wordsIn sizeIn linesOf wordsRead misread lineAt lineLong wordsOf lineOf readHeaderTests sizeOf headerOf unframed undigit valueOf hexOf nibble byteOf digitOf steps blockWidth blocks blockSteps rowSteps tableSteps each many unless0 bitsOf meant total schoolbook sum faults over first padded stray encode plane joined tab cell sign unit bitAt words wide planes wordOf signOf unitOf is bit any
+unfolding input output multiplyText answerText productText framesOf refusal multiplyTests productTests formTests matrixTests headTests above restOf wordsIn sizeIn linesOf wordsRead misread lineAt lineLong wordsOf lineOf readHeaderTests sizeOf headerOf unframed undigit valueOf hexOf nibble byteOf digitOf steps blockWidth blocks blockSteps rowSteps tableSteps each many unless0 bitsOf meant total schoolbook sum faults over first padded stray encode plane joined tab cell sign unit bitAt words wide planes wordOf signOf unitOf is bit any
 sample = refl

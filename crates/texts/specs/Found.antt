@@ -18,7 +18,7 @@ pub record Found (text : List ℕ) (start rows columns end : ℕ) (old new : Lis
   pub words-are : new ≡ laid (wordsIn (drop start text)) old
 
 -- A and B out of a whole text, each in the first words of its buffer
-pub record Factors (text : List ℕ) (x y : Size) (a b : List ℕ) : Type 0 where
+pub record Matrices (text : List ℕ) (x y : Size) (a b : List ℕ) : Type 0 where
   pub x-is : x ≡ sizeIn text
   pub y-is : y ≡ sizeIn (restOf text)
   pub x-rows : x .rows ≤ 128

@@ -7,9 +7,8 @@ use lib.ListN.{length, drop}
 use Rattle.buffers.specs.Buffer.{cell, encode}
 use Rattle.requests.specs.declared.Size.{Size}
 use Rattle.requests.specs.Answers.{Tests, first}
-use Rattle.requests.specs.Sizes.{faults}
 use Rattle.steps.specs.Matrix.{schoolbook}
-use Rattle.matrix.specs.Job.{meant, productSize, totalOf, unmatched}
+use Rattle.matrix.specs.Job.{meant, productSize, unmatched, totalOf, pairFaults}
 use Rattle.frames.specs.Line.{hexOf}
 use Rattle.frames.specs.Header.{headerOf}
 use Rattle.texts.specs.MatrixText.{linesOf, sizeIn, wordsIn, restOf, matrixTests}
@@ -19,11 +18,11 @@ unfoldable pub formTests : List ℕ → Tests
 formTests text = matrixTests text ++ (matrixTests (restOf text) ++ ((ltb 0 (length (restOf (restOf text))), 10) ∷ []))
 
 -- and after that 2, then 5 and 6
-unfoldable pub factorTests : Size → Size → List ℕ → List ℕ → Tests
-factorTests x y a b = (unmatched x y, 2) ∷ (faults x a ++ faults y b)
+unfoldable pub productTests : Size → Size → List ℕ → List ℕ → Tests
+productTests x y a b = (unmatched x y, 2) ∷ pairFaults x y a b
 
 unfoldable pub multiplyTests : List ℕ → Tests
-multiplyTests text = formTests text ++ factorTests (sizeIn text) (sizeIn (restOf text)) (wordsIn text) (wordsIn (restOf text))
+multiplyTests text = formTests text ++ productTests (sizeIn text) (sizeIn (restOf text)) (wordsIn text) (wordsIn (restOf text))
 
 -- the word refused, a space, the number as two digits, byte 10
 unfoldable pub refusal : ℕ → List ℕ

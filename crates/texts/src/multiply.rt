@@ -7,8 +7,8 @@ ghost use Rattle.requests.specs.Answers.{number, first};
 ghost use Rattle.steps.specs.Matrix.{schoolbook};
 ghost use Rattle.matrix.specs.Job.{meant, totalOf};
 ghost use Rattle.texts.specs.MatrixText.{sizeIn, wordsIn, restOf};
-ghost use Rattle.texts.specs.Multiply.{formTests, factorTests, multiplyMeans};
-ghost use Rattle.texts.specs.Found.{Factors};
+ghost use Rattle.texts.specs.Multiply.{formTests, productTests, multiplyMeans};
+ghost use Rattle.texts.specs.Found.{Matrices};
 use super::read::matrix_in;
 use super::write::put_frames;
 use super::write::refuse;
@@ -47,9 +47,9 @@ fn unread(f: Answer) -> Form
 }
 
 // A, then B, then the end of the text.
-fn factors(text: &[u8], a: &mut [u64], b: &mut [u64]) -> Form
+fn matrices(text: &[u8], a: &mut [u64], b: &mut [u64]) -> Form
     requires { ⌜ (length (now a) ≡ 512) × (length (now b) ≡ 512) ⌝ }
-    ensures { λ r. ⌜ (number (r .answer) ≡ first (formTests (now (text .entry)))) × (number (r .answer) ≡ 0 → Factors (now (text .entry)) (r .x) (r .y) (now (a .exit)) (now (b .exit))) ⌝ }
+    ensures { λ r. ⌜ (number (r .answer) ≡ first (formTests (now (text .entry)))) × (number (r .answer) ≡ 0 → Matrices (now (text .entry)) (r .x) (r .y) (now (a .exit)) (now (b .exit))) ⌝ }
 {
     let x = matrix_in(text, 0, a);
     let f = x.answer;
@@ -88,7 +88,7 @@ fn long(s: Size) -> usize
 // The product at width 0, and the exact total.
 fn made(x: Size, y: Size, a: &[u64], b: &[u64], table: &mut [u64], out: &mut [u64]) -> Outcome
     requires { ⌜ (x .rows ≤ 128) × (x .columns ≤ 128) × (y .rows ≤ 128) × (y .columns ≤ 128) × (length (now a) ≡ words (x .rows) (x .columns)) × (length (now b) ≡ words (y .rows) (y .columns)) × (length (now table) ≡ words 16 (y .columns)) × (length (now out) ≡ words (x .rows) (y .columns)) ⌝ }
-    ensures { λ r. ⌜ (number (r .answer) ≡ first (factorTests x y (now (a .entry)) (now (b .entry)))) × (number (r .answer) ≡ 0 → (r .total ≡ totalOf x (meant 0) (now (a .entry))) × (now (out .exit) ≡ encode (x .rows) (y .columns) (schoolbook (x .columns) (cell (x .columns) (now (a .entry))) (cell (y .columns) (now (b .entry)))))) ⌝ }
+    ensures { λ r. ⌜ (number (r .answer) ≡ first (productTests x y (now (a .entry)) (now (b .entry)))) × (number (r .answer) ≡ 0 → (r .total ≡ totalOf x (meant 0) (now (a .entry))) × (now (out .exit) ≡ encode (x .rows) (y .columns) (schoolbook (x .columns) (cell (x .columns) (now (a .entry))) (cell (y .columns) (now (b .entry)))))) ⌝ }
 {
     let f = product(x, y, 0, a, b, table, out);
     if number(f) != 0 {
@@ -116,7 +116,7 @@ fn answer(
     requires { ⌜ (length (now a) ≡ 512) × (length (now b) ≡ 512) × (length (now table) ≡ 64) × (length (now product) ≡ 512) ⌝ }
     ensures { λ r. ⌜ (r, now (out .exit)) ≡ multiplyMeans (now (text .entry)) (now (out .entry)) ⌝ }
 {
-    let form = factors(text, a, b);
+    let form = matrices(text, a, b);
     let f = form.answer;
     if number(f) != 0 {
         return refuse(number(f), out);

@@ -8,10 +8,11 @@ use lib.ListN.{length, take, drop, length-append, drop-of-length-le}
 use lib.Seq.{take-all, take-append-seam}
 use Rattle.steps.specs.Step.{Step, tableStep}
 use Rattle.steps.specs.StepList.{each, tableSteps}
+use Rattle.steps.specs.Turn.{due}
 use Rattle.steps.proofs.Loops.{each-split, each-end, length-each}
 use Rattle.cells.proofs.SumLaws.{sum-same}
 use Rattle.walk.specs.declared.Left.{Left}
-use Rattle.walk.specs.Due.{due, Spent}
+use Rattle.walk.specs.Spent.{Spent}
 
 pub due-nothing : (z : ℕ) (ps : List Step) → due z 0 ps ≡ []
 unfolding due

@@ -14,13 +14,14 @@ use Rattle.steps.specs.Step.{Step, tableStep, minus, lowestBit, cleared}
 use Rattle.steps.specs.StepList.{unless0, each, tableSteps, rowSteps, blockSteps, blocks, blockWidth, blockAt, steps}
 use Rattle.steps.specs.Count.{countAt}
 use Rattle.cells.specs.Counts.{sum}
+use Rattle.steps.specs.Turn.{due}
 use Rattle.steps.proofs.Fits.{AllFit, fit-take, fit-drop, fit-each, table-step-fits, row-fits, block-fits, fit-wider}
 use Rattle.steps.proofs.Counts.{length-block}
 use Rattle.steps.proofs.Loops.{each-split, each-next, each-end, length-each, width-within, width-le}
 use Rattle.steps.proofs.LowestBit.{lowest-only, cleared-only}
 use Rattle.cells.proofs.SumLaws.{sum-ext}
 use Rattle.walk.specs.declared.Left.{Left}
-use Rattle.walk.specs.Due.{due, Spent}
+use Rattle.walk.specs.Spent.{Spent}
 use Rattle.walk.specs.Ran.{Ran}
 use Rattle.walk.proofs.DueLaws.{due-nothing, due-nil, due-skipped, due-made, due-more, spent-none, due-after, spent-append, table-length, table-due}
 use Rattle.walk.proofs.RanLaws.{ran-none, ran-more}

@@ -3,9 +3,8 @@ ghost use mathlib.Core.Path.{_≡_};
 ghost use Prim.Native.Nat.{ℕ, _+_, _≤_, _<_};
 ghost use lib.ListN.{length};
 ghost use Rattle.buffers.specs.Buffer.{cell, Legal};
-ghost use Rattle.cells.specs.Counts.{sum};
 ghost use Rattle.steps.specs.StepList.{blocks, blockWidth};
-ghost use Rattle.steps.specs.Count.{total, countAt};
+ghost use Rattle.walk.specs.Place.{StandsAt};
 use super::count::block_count;
 
 pub struct Standing {
@@ -36,7 +35,7 @@ pub fn width(l: usize, k: usize, b: usize) -> usize
 
 pub fn place(a: &[u64], m: usize, l: usize, k: usize, done: u64) -> Standing
     requires { ⌜ (m ≤ 1024) × (l ≤ 1024) × Legal m l (now a) × (0 < k) × (k ≤ 8) ⌝ }
-    ensures { λ r. ⌜ (r .total ≡ total m l k (cell l (now (a .entry)))) × (r .before ≡ sum 0 (r .block) (countAt m l k (cell l (now (a .entry))))) × (r .before ≤ done) × (r .block ≤ blocks l k) ⌝ }
+    ensures { λ r. ⌜ StandsAt m l k (cell l (now (a .entry))) done r ⌝ }
 {
     let n = blocks(l, k);
     let mut total: u64 = 0;

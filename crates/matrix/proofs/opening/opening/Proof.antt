@@ -4,11 +4,11 @@ use Prim.Native.Nat.{ℕ, _^_}
 use lib.ListN.{length}
 use Rattle.buffers.proofs.BufferLaws.{zeros-encode}
 use Rattle.requests.specs.declared.Size.{Size}
-use Rattle.requests.proofs.AnswerLaws.{refused, finished, append-front}
+use Rattle.requests.proofs.AnswerLaws.{refused, finished}
 use Rattle.matrix.specs.declared.job.Job.{Job}
-use Rattle.matrix.specs.Job.{meant, totalOf, countless}
-use Rattle.matrix.specs.Opening.{fittingTests, openingTests, openingMeans}
-use Rattle.matrix.proofs.JobLaws.{fitting-ready, fitting-positive}
+use Rattle.matrix.specs.Job.{meant}
+use Rattle.matrix.specs.Opening.{openingMeans}
+use Rattle.matrix.proofs.JobLaws.{opening-ready}
 use borrow.Author.Needs.{needs}
 use Rattle.matrix.proofs.opening.opening.Statement.{statement}
 use Rattle.matrix.proofs.opening.opening.Tie as tie
@@ -42,9 +42,9 @@ same-length-2 : tie.Need-same-length-2
 same-length-2 c = search needs
 
 returns-2 : tie.Need-returns-2
-unfolding openingMeans openingTests
+unfolding openingMeans
 returns-2 c =
-    let r = fitting-ready (c .before .before .before .before .before .before .before .before .before .before .before .before .before .before .before .before .args .x) (c .before .before .before .before .before .before .before .before .before .before .before .before .before .before .before .before .args .y) (c .before .before .before .before .before .before .before .before .before .before .before .before .before .before .before .before .args .width) (c .before .before .before .before .before .before .before .before .before .before .before .before .before .before .before .before .args .a .now) (c .before .before .before .before .before .before .before .before .before .before .before .before .before .before .before .before .args .b .now) (length (c .before .before .before .before .before .before .before .before .before .before .before .before .before .before .before .before .args .table .now)) (length (c .before .before .before .before .before .before .before .before .before .before .before .before .before .before .before .before .args .product .now)) (append-front (fittingTests (c .before .before .before .before .before .before .before .before .before .before .before .before .before .before .before .before .args .x) (c .before .before .before .before .before .before .before .before .before .before .before .before .before .before .before .before .args .y) (c .before .before .before .before .before .before .before .before .before .before .before .before .before .before .before .before .args .width) (c .before .before .before .before .before .before .before .before .before .before .before .before .before .before .before .before .args .a .now) (c .before .before .before .before .before .before .before .before .before .before .before .before .before .before .before .before .args .b .now) (length (c .before .before .before .before .before .before .before .before .before .before .before .before .before .before .before .before .args .table .now)) (length (c .before .before .before .before .before .before .before .before .before .before .before .before .before .before .before .before .args .product .now))) (countless (totalOf (c .before .before .before .before .before .before .before .before .before .before .before .before .before .before .before .before .args .x) (meant (c .before .before .before .before .before .before .before .before .before .before .before .before .before .before .before .before .args .width)) (c .before .before .before .before .before .before .before .before .before .before .before .before .before .before .before .before .args .a .now))) (fitting-positive (c .before .before .before .before .before .before .before .before .before .before .before .before .before .before .before .before .args .x) (c .before .before .before .before .before .before .before .before .before .before .before .before .before .before .before .before .args .y) (c .before .before .before .before .before .before .before .before .before .before .before .before .before .before .before .before .args .width) (c .before .before .before .before .before .before .before .before .before .before .before .before .before .before .before .before .args .a .now) (c .before .before .before .before .before .before .before .before .before .before .before .before .before .before .before .before .args .b .now) (length (c .before .before .before .before .before .before .before .before .before .before .before .before .before .before .before .before .args .table .now)) (length (c .before .before .before .before .before .before .before .before .before .before .before .before .before .before .before .before .args .product .now))) (sym (c .before .before .before .before .before .before .before .before .before .before .before .judged .ensures) ∙ sym (c .before .before .before .before .before .before .before .before .before .before .number .ensures) ∙ c .before .before .before .before .before .before .before .before .before .if1 .left)) in
+    let r = opening-ready (c .before .before .before .before .before .before .before .before .before .before .before .before .before .before .before .before .args .x) (c .before .before .before .before .before .before .before .before .before .before .before .before .before .before .before .before .args .y) (c .before .before .before .before .before .before .before .before .before .before .before .before .before .before .before .before .args .width) (c .before .before .before .before .before .before .before .before .before .before .before .before .before .before .before .before .args .a .now) (c .before .before .before .before .before .before .before .before .before .before .before .before .before .before .before .before .args .b .now) (length (c .before .before .before .before .before .before .before .before .before .before .before .before .before .before .before .before .args .table .now)) (length (c .before .before .before .before .before .before .before .before .before .before .before .before .before .before .before .before .args .product .now)) (sym (c .before .before .before .before .before .before .before .before .before .before .before .judged .ensures) ∙ sym (c .before .before .before .before .before .before .before .before .before .before .number .ensures) ∙ c .before .before .before .before .before .before .before .before .before .if1 .left) in
     finished _ _ _ _ (sym (c .before .before .before .before .before .before .before .before .before .before .before .judged .ensures) ∙ sym (c .before .before .before .before .before .before .before .before .before .before .number .ensures) ∙ c .before .before .before .before .before .before .before .before .before .if1 .left)
     (ap₂ (λ (w : ℕ) (tp : List ℕ × List ℕ). (made (c .before .before .before .before .before .before .before .before .before .before .before .before .before .before .before .before .args .x) (c .before .before .before .before .before .before .before .before .before .before .before .before .before .before .before .before .args .y) w, tp)) (c .meant .ensures)
     (ap₂ (λ (t p : List ℕ). (t, p)) (zeros-encode (2 ^ meant (c .before .before .before .before .before .before .before .before .before .before .before .before .before .before .before .before .args .width)) (c .before .before .before .before .before .before .before .before .before .before .before .before .before .before .before .before .args .y .columns) _ (c .before .before .before .before .before .before .before .zero .ensures .0 ∙ r .table) (c .before .before .before .before .before .before .before .zero .ensures .1)) (zeros-encode (c .before .before .before .before .before .before .before .before .before .before .before .before .before .before .before .before .args .x .rows) (c .before .before .before .before .before .before .before .before .before .before .before .before .before .before .before .before .args .y .columns) _ (c .before .before .before .zero2 .ensures .0 ∙ r .product) (c .before .before .before .zero2 .ensures .1))))

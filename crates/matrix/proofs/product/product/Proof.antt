@@ -2,11 +2,10 @@ use mathlib.Core.Path.{sym, ap₂, _∙_}
 use mathlib.Core.List.{List}
 use Prim.Native.Nat.{ℕ}
 use lib.ListN.{length}
-use Rattle.requests.proofs.AnswerLaws.{refused, finished, append-front}
-use Rattle.matrix.specs.Job.{meant, totalOf, countless}
-use Rattle.matrix.specs.Opening.{fittingTests, openingTests}
+use Rattle.requests.proofs.AnswerLaws.{refused, finished}
+use Rattle.matrix.specs.Job.{meant}
 use Rattle.matrix.specs.Product.{endOf, productMeans}
-use Rattle.matrix.proofs.JobLaws.{meant-pos, meant-le, fitting-ready, fitting-positive}
+use Rattle.matrix.proofs.JobLaws.{meant-pos, meant-le, opening-ready}
 use borrow.Author.Needs.{needs}
 use native.Mathlib.Omega.{arith}
 use Rattle.matrix.proofs.product.product.Statement.{statement}
@@ -26,9 +25,8 @@ meant-requires : tie.Need-meant-requires
 meant-requires c κs = search needs
 
 multiplied-requires : tie.Need-multiplied-requires
-unfolding openingTests
 multiplied-requires c κs =
-    let r = fitting-ready (c .before .before .before .before .before .before .before .before .before .before .args .x) (c .before .before .before .before .before .before .before .before .before .before .args .y) (c .before .before .before .before .before .before .before .before .before .before .args .width) (c .before .before .before .before .before .before .before .before .before .before .args .a .now) (c .before .before .before .before .before .before .before .before .before .before .args .b .now) (length (c .before .before .before .before .before .before .before .before .before .before .args .table .now)) (length (c .before .before .before .before .before .before .before .before .before .before .args .product .now)) (append-front (fittingTests (c .before .before .before .before .before .before .before .before .before .before .args .x) (c .before .before .before .before .before .before .before .before .before .before .args .y) (c .before .before .before .before .before .before .before .before .before .before .args .width) (c .before .before .before .before .before .before .before .before .before .before .args .a .now) (c .before .before .before .before .before .before .before .before .before .before .args .b .now) (length (c .before .before .before .before .before .before .before .before .before .before .args .table .now)) (length (c .before .before .before .before .before .before .before .before .before .before .args .product .now))) (countless (totalOf (c .before .before .before .before .before .before .before .before .before .before .args .x) (meant (c .before .before .before .before .before .before .before .before .before .before .args .width)) (c .before .before .before .before .before .before .before .before .before .before .args .a .now))) (fitting-positive (c .before .before .before .before .before .before .before .before .before .before .args .x) (c .before .before .before .before .before .before .before .before .before .before .args .y) (c .before .before .before .before .before .before .before .before .before .before .args .width) (c .before .before .before .before .before .before .before .before .before .before .args .a .now) (c .before .before .before .before .before .before .before .before .before .before .args .b .now) (length (c .before .before .before .before .before .before .before .before .before .before .args .table .now)) (length (c .before .before .before .before .before .before .before .before .before .before .args .product .now))) (sym (c .before .before .before .before .before .judged .ensures) ∙ sym (c .before .before .before .before .number .ensures) ∙ c .before .before .before .if1 .left)) in
+    let r = opening-ready (c .before .before .before .before .before .before .before .before .before .before .args .x) (c .before .before .before .before .before .before .before .before .before .before .args .y) (c .before .before .before .before .before .before .before .before .before .before .args .width) (c .before .before .before .before .before .before .before .before .before .before .args .a .now) (c .before .before .before .before .before .before .before .before .before .before .args .b .now) (length (c .before .before .before .before .before .before .before .before .before .before .args .table .now)) (length (c .before .before .before .before .before .before .before .before .before .before .args .product .now)) (sym (c .before .before .before .before .before .judged .ensures) ∙ sym (c .before .before .before .before .number .ensures) ∙ c .before .before .before .if1 .left) in
     (record { m = r .m; l = r .l; n = r .n; some = omega (arith, c .before .before .meant .ensures, meant-pos (c .before .before .before .before .before .before .before .before .before .before .args .width)); width = omega (arith, c .before .before .meant .ensures, meant-le (c .before .before .before .before .before .before .before .before .before .before .args .width) (r .width)) }, r .left, r .right, rw (c .before .before .meant .ensures) (r .table), r .product)
 
 same-length : tie.Need-same-length

@@ -6,9 +6,9 @@ use Rattle.buffers.specs.Buffer.{cell}
 use Rattle.requests.specs.Answers.{first}
 use Rattle.requests.proofs.AnswerLaws.{append-given, append-none, here, later, refused, finished}
 use Rattle.steps.specs.Count.{total}
-use Rattle.matrix.specs.Job.{meant, totalOf, countless}
-use Rattle.matrix.specs.Total.{factorTests, totalTests, totalMeans}
-use Rattle.matrix.proofs.JobLaws.{meant-pos, meant-le, factor-ready, factor-positive}
+use Rattle.matrix.specs.Job.{meant, countless}
+use Rattle.matrix.specs.Total.{listTests, totalTests, totalMeans}
+use Rattle.matrix.proofs.JobLaws.{meant-pos, meant-le, list-ready, list-positive}
 use borrow.Author.Needs.{needs}
 use native.Mathlib.Omega.{arith}
 use Rattle.matrix.proofs.total.total.Statement.{statement}
@@ -22,23 +22,23 @@ number-requires c κs = search needs
 
 returns : tie.Need-returns
 unfolding totalMeans totalTests
-returns c = refused _ _ _ _ (λ z. c .if1 .taken (c .before .number .ensures ∙ z)) (append-given (factorTests (c .before .before .before .before .args .x) (c .before .before .before .before .args .width) (c .before .before .before .before .args .a .now)) (countless (totalOf (c .before .before .before .before .args .x) (meant (c .before .before .before .before .args .width)) (c .before .before .before .before .args .a .now))) (λ z. c .if1 .taken (c .before .number .ensures ∙ c .before .before .judged .ensures ∙ z)) ∙ sym (c .before .before .judged .ensures))
+returns c = refused _ _ _ _ (λ z. c .if1 .taken (c .before .number .ensures ∙ z)) (append-given (listTests (c .before .before .before .before .args .x) (c .before .before .before .before .args .width) (c .before .before .before .before .args .a .now)) (countless (c .before .before .before .before .args .x) (meant (c .before .before .before .before .args .width)) (c .before .before .before .before .args .a .now)) (λ z. c .if1 .taken (c .before .number .ensures ∙ c .before .before .judged .ensures ∙ z)) ∙ sym (c .before .before .judged .ensures))
 
 meant-requires : tie.Need-meant-requires
 meant-requires c κs = search needs
 
 place-requires : tie.Need-place-requires
 place-requires c κs =
-    let r = factor-ready (c .before .before .before .before .before .args .x) (c .before .before .before .before .before .args .width) (c .before .before .before .before .before .args .a .now) (sym (c .before .before .before .judged .ensures) ∙ sym (c .before .before .number .ensures) ∙ c .before .if1 .left) in
+    let r = list-ready (c .before .before .before .before .before .args .x) (c .before .before .before .before .before .args .width) (c .before .before .before .before .before .args .a .now) (sym (c .before .before .before .judged .ensures) ∙ sym (c .before .before .number .ensures) ∙ c .before .if1 .left) in
     (r .rows, r .columns, r .legal, omega (arith, c .meant .ensures, meant-pos (c .before .before .before .before .before .args .width)), omega (arith, c .meant .ensures, meant-le (c .before .before .before .before .before .args .width) (r .width)))
 
 returns-2 : tie.Need-returns-2
 unfolding totalMeans totalTests
-returns-2 c = refused _ _ _ 9 (λ z. omega arith) (append-none (factorTests (c .before .before .before .before .before .before .before .args .x) (c .before .before .before .before .before .before .before .args .width) (c .before .before .before .before .before .before .before .args .a .now)) (countless (totalOf (c .before .before .before .before .before .before .before .args .x) (meant (c .before .before .before .before .before .before .before .args .width)) (c .before .before .before .before .before .before .before .args .a .now))) (factor-positive (c .before .before .before .before .before .before .before .args .x) (c .before .before .before .before .before .before .before .args .width) (c .before .before .before .before .before .before .before .args .a .now)) (sym (c .before .before .before .before .before .judged .ensures) ∙ sym (c .before .before .before .before .number .ensures) ∙ c .before .before .before .if1 .left) ∙ here _ 9 [] (lt-ltb 4294967295 _ (rw (c .before .place .ensures .0 ∙ ap (λ (k : ℕ). total (c .before .before .before .before .before .before .before .args .x .rows) (c .before .before .before .before .before .before .before .args .x .columns) k (cell (c .before .before .before .before .before .before .before .args .x .columns) (c .before .before .before .before .before .before .before .args .a .now))) (c .before .before .meant .ensures)) at (c .if2 .taken))))
+returns-2 c = refused _ _ _ 9 (λ z. omega arith) (append-none (listTests (c .before .before .before .before .before .before .before .args .x) (c .before .before .before .before .before .before .before .args .width) (c .before .before .before .before .before .before .before .args .a .now)) (countless (c .before .before .before .before .before .before .before .args .x) (meant (c .before .before .before .before .before .before .before .args .width)) (c .before .before .before .before .before .before .before .args .a .now)) (list-positive (c .before .before .before .before .before .before .before .args .x) (c .before .before .before .before .before .before .before .args .width) (c .before .before .before .before .before .before .before .args .a .now)) (sym (c .before .before .before .before .before .judged .ensures) ∙ sym (c .before .before .before .before .number .ensures) ∙ c .before .before .before .if1 .left) ∙ here _ 9 [] (lt-ltb 4294967295 _ (rw (c .before .place .ensures .0 ∙ ap (λ (k : ℕ). total (c .before .before .before .before .before .before .before .args .x .rows) (c .before .before .before .before .before .before .before .args .x .columns) k (cell (c .before .before .before .before .before .before .before .args .x .columns) (c .before .before .before .before .before .before .before .args .a .now))) (c .before .before .meant .ensures)) at (c .if2 .taken))))
 
 returns-3 : tie.Need-returns-3
 unfolding totalMeans totalTests first
-returns-3 c = finished _ _ _ _ (append-none (factorTests (c .before .before .before .before .before .before .before .args .x) (c .before .before .before .before .before .before .before .args .width) (c .before .before .before .before .before .before .before .args .a .now)) (countless (totalOf (c .before .before .before .before .before .before .before .args .x) (meant (c .before .before .before .before .before .before .before .args .width)) (c .before .before .before .before .before .before .before .args .a .now))) (factor-positive (c .before .before .before .before .before .before .before .args .x) (c .before .before .before .before .before .before .before .args .width) (c .before .before .before .before .before .before .before .args .a .now)) (sym (c .before .before .before .before .before .judged .ensures) ∙ sym (c .before .before .before .before .number .ensures) ∙ c .before .before .before .if1 .left) ∙ later _ 9 [] (le-ltb 4294967295 _ (rw (c .before .place .ensures .0 ∙ ap (λ (k : ℕ). total (c .before .before .before .before .before .before .before .args .x .rows) (c .before .before .before .before .before .before .before .args .x .columns) k (cell (c .before .before .before .before .before .before .before .args .x .columns) (c .before .before .before .before .before .before .before .args .a .now))) (c .before .before .meant .ensures)) at (c .if2 .left)))) (c .before .place .ensures .0 ∙ ap (λ (k : ℕ). total (c .before .before .before .before .before .before .before .args .x .rows) (c .before .before .before .before .before .before .before .args .x .columns) k (cell (c .before .before .before .before .before .before .before .args .x .columns) (c .before .before .before .before .before .before .before .args .a .now))) (c .before .before .meant .ensures))
+returns-3 c = finished _ _ _ _ (append-none (listTests (c .before .before .before .before .before .before .before .args .x) (c .before .before .before .before .before .before .before .args .width) (c .before .before .before .before .before .before .before .args .a .now)) (countless (c .before .before .before .before .before .before .before .args .x) (meant (c .before .before .before .before .before .before .before .args .width)) (c .before .before .before .before .before .before .before .args .a .now)) (list-positive (c .before .before .before .before .before .before .before .args .x) (c .before .before .before .before .before .before .before .args .width) (c .before .before .before .before .before .before .before .args .a .now)) (sym (c .before .before .before .before .before .judged .ensures) ∙ sym (c .before .before .before .before .number .ensures) ∙ c .before .before .before .if1 .left) ∙ later _ 9 [] (le-ltb 4294967295 _ (rw (c .before .place .ensures .0 ∙ ap (λ (k : ℕ). total (c .before .before .before .before .before .before .before .args .x .rows) (c .before .before .before .before .before .before .before .args .x .columns) k (cell (c .before .before .before .before .before .before .before .args .x .columns) (c .before .before .before .before .before .before .before .args .a .now))) (c .before .before .meant .ensures)) at (c .if2 .left)))) (c .before .place .ensures .0 ∙ ap (λ (k : ℕ). total (c .before .before .before .before .before .before .before .args .x .rows) (c .before .before .before .before .before .before .before .args .x .columns) k (cell (c .before .before .before .before .before .before .before .args .x .columns) (c .before .before .before .before .before .before .before .args .a .now))) (c .before .before .meant .ensures))
 
 pub total-spec : {M : Type 1} → statement M
 total-spec =

@@ -1,5 +1,5 @@
-use mathlib.Core.Path.{sym, ap, _∙_}
-use mathlib.Core.List.{_++_, append-assoc}
+use mathlib.Core.Path.{sym, _∙_}
+use mathlib.Core.List.{_++_}
 use borrow.Author.Tests.{ltb-false}
 use Rattle.cells.proofs.AnyLaws.{or-left, or-right}
 use lib.Dec.{ltb, eqb}
@@ -47,7 +47,7 @@ returns-4 : tie.Need-returns-4
 unfolding foundTests first
 returns-4 c =
     rw (sym (c .before .before .before .before .before .before .before .before .either-over .ensures) ∙ c .before .before .before .before .before .before .before .if1 .left, sym (c .before .before .before .before .before .before .unwide .ensures) ∙ c .before .before .before .before .before .if2 .left, sym (c .before .before .before .before .misfit .ensures) ∙ c .before .before .before .if3 .left)
-    (c .before .before .either-fault .ensures ∙ sym (append-given ((faults (sizeA (c .before .before .before .before .before .before .before .before .before .before .before .before .before .args .job)) (c .before .before .before .before .before .before .before .before .before .before .before .before .before .args .a .now)) ++ (faults (sizeB (c .before .before .before .before .before .before .before .before .before .before .before .before .before .args .job)) (c .before .before .before .before .before .before .before .before .before .before .before .before .before .args .b .now))) ((faults (tableSize (sizeB (c .before .before .before .before .before .before .before .before .before .before .before .before .before .args .job)) (c .before .before .before .before .before .before .before .before .before .before .before .before .before .args .job .width)) (c .before .before .before .before .before .before .before .before .before .before .before .before .before .args .table .now)) ++ (faults (productSize (sizeA (c .before .before .before .before .before .before .before .before .before .before .before .before .before .args .job)) (sizeB (c .before .before .before .before .before .before .before .before .before .before .before .before .before .args .job))) (c .before .before .before .before .before .before .before .before .before .before .before .before .before .args .product .now))) (λ z. c .if4 .taken (c .before .number .ensures ∙ c .before .before .either-fault .ensures ∙ z))) ∙ ap first (append-assoc (faults (sizeA (c .before .before .before .before .before .before .before .before .before .before .before .before .before .args .job)) (c .before .before .before .before .before .before .before .before .before .before .before .before .before .args .a .now)) (faults (sizeB (c .before .before .before .before .before .before .before .before .before .before .before .before .before .args .job)) (c .before .before .before .before .before .before .before .before .before .before .before .before .before .args .b .now)) ((faults (tableSize (sizeB (c .before .before .before .before .before .before .before .before .before .before .before .before .before .args .job)) (c .before .before .before .before .before .before .before .before .before .before .before .before .before .args .job .width)) (c .before .before .before .before .before .before .before .before .before .before .before .before .before .args .table .now)) ++ (faults (productSize (sizeA (c .before .before .before .before .before .before .before .before .before .before .before .before .before .args .job)) (sizeB (c .before .before .before .before .before .before .before .before .before .before .before .before .before .args .job))) (c .before .before .before .before .before .before .before .before .before .before .before .before .before .args .product .now)))))
+    (c .before .before .either-fault .ensures ∙ sym (append-given ((faults (sizeA (c .before .before .before .before .before .before .before .before .before .before .before .before .before .args .job)) (c .before .before .before .before .before .before .before .before .before .before .before .before .before .args .a .now)) ++ (faults (sizeB (c .before .before .before .before .before .before .before .before .before .before .before .before .before .args .job)) (c .before .before .before .before .before .before .before .before .before .before .before .before .before .args .b .now))) ((faults (tableSize (sizeB (c .before .before .before .before .before .before .before .before .before .before .before .before .before .args .job)) (c .before .before .before .before .before .before .before .before .before .before .before .before .before .args .job .width)) (c .before .before .before .before .before .before .before .before .before .before .before .before .before .args .table .now)) ++ (faults (productSize (sizeA (c .before .before .before .before .before .before .before .before .before .before .before .before .before .args .job)) (sizeB (c .before .before .before .before .before .before .before .before .before .before .before .before .before .args .job))) (c .before .before .before .before .before .before .before .before .before .before .before .before .before .args .product .now))) (λ z. c .if4 .taken (c .before .number .ensures ∙ c .before .before .either-fault .ensures ∙ z))))
 
 shl-t19 : tie.Need-shl-t19
 shl-t19 c =
@@ -63,7 +63,7 @@ returns-5 : tie.Need-returns-5
 unfolding foundTests first
 returns-5 c =
     rw (sym (c .before .before .before .before .before .before .before .before .before .either-over .ensures) ∙ c .before .before .before .before .before .before .before .before .if1 .left, sym (c .before .before .before .before .before .before .before .unwide .ensures) ∙ c .before .before .before .before .before .before .if2 .left, sym (c .before .before .before .before .before .misfit .ensures) ∙ c .before .before .before .before .if3 .left)
-    ((rw (shift-one (c .before .before .before .before .before .before .before .before .before .before .before .before .before .before .args .job .width) (ltb-false 8 (c .before .before .before .before .before .before .before .before .before .before .before .before .before .before .args .job .width) (or-right (eqb (c .before .before .before .before .before .before .before .before .before .before .before .before .before .before .args .job .width) 0) (ltb 8 (c .before .before .before .before .before .before .before .before .before .before .before .before .before .before .args .job .width)) (sym (c .before .before .before .before .before .before .before .unwide .ensures) ∙ c .before .before .before .before .before .before .if2 .left)))) at (c .either-fault2 .ensures)) ∙ sym (append-none ((faults (sizeA (c .before .before .before .before .before .before .before .before .before .before .before .before .before .before .args .job)) (c .before .before .before .before .before .before .before .before .before .before .before .before .before .before .args .a .now)) ++ (faults (sizeB (c .before .before .before .before .before .before .before .before .before .before .before .before .before .before .args .job)) (c .before .before .before .before .before .before .before .before .before .before .before .before .before .before .args .b .now))) ((faults (tableSize (sizeB (c .before .before .before .before .before .before .before .before .before .before .before .before .before .before .args .job)) (c .before .before .before .before .before .before .before .before .before .before .before .before .before .before .args .job .width)) (c .before .before .before .before .before .before .before .before .before .before .before .before .before .before .args .table .now)) ++ (faults (productSize (sizeA (c .before .before .before .before .before .before .before .before .before .before .before .before .before .before .args .job)) (sizeB (c .before .before .before .before .before .before .before .before .before .before .before .before .before .before .args .job))) (c .before .before .before .before .before .before .before .before .before .before .before .before .before .before .args .product .now))) (pair-positive (sizeA (c .before .before .before .before .before .before .before .before .before .before .before .before .before .before .args .job)) (sizeB (c .before .before .before .before .before .before .before .before .before .before .before .before .before .before .args .job)) _ _) (sym (c .before .before .before .either-fault .ensures) ∙ sym (c .before .before .number .ensures) ∙ c .before .if4 .left)) ∙ ap first (append-assoc (faults (sizeA (c .before .before .before .before .before .before .before .before .before .before .before .before .before .before .args .job)) (c .before .before .before .before .before .before .before .before .before .before .before .before .before .before .args .a .now)) (faults (sizeB (c .before .before .before .before .before .before .before .before .before .before .before .before .before .before .args .job)) (c .before .before .before .before .before .before .before .before .before .before .before .before .before .before .args .b .now)) ((faults (tableSize (sizeB (c .before .before .before .before .before .before .before .before .before .before .before .before .before .before .args .job)) (c .before .before .before .before .before .before .before .before .before .before .before .before .before .before .args .job .width)) (c .before .before .before .before .before .before .before .before .before .before .before .before .before .before .args .table .now)) ++ (faults (productSize (sizeA (c .before .before .before .before .before .before .before .before .before .before .before .before .before .before .args .job)) (sizeB (c .before .before .before .before .before .before .before .before .before .before .before .before .before .before .args .job))) (c .before .before .before .before .before .before .before .before .before .before .before .before .before .before .args .product .now)))))
+    ((rw (shift-one (c .before .before .before .before .before .before .before .before .before .before .before .before .before .before .args .job .width) (ltb-false 8 (c .before .before .before .before .before .before .before .before .before .before .before .before .before .before .args .job .width) (or-right (eqb (c .before .before .before .before .before .before .before .before .before .before .before .before .before .before .args .job .width) 0) (ltb 8 (c .before .before .before .before .before .before .before .before .before .before .before .before .before .before .args .job .width)) (sym (c .before .before .before .before .before .before .before .unwide .ensures) ∙ c .before .before .before .before .before .before .if2 .left)))) at (c .either-fault2 .ensures)) ∙ sym (append-none ((faults (sizeA (c .before .before .before .before .before .before .before .before .before .before .before .before .before .before .args .job)) (c .before .before .before .before .before .before .before .before .before .before .before .before .before .before .args .a .now)) ++ (faults (sizeB (c .before .before .before .before .before .before .before .before .before .before .before .before .before .before .args .job)) (c .before .before .before .before .before .before .before .before .before .before .before .before .before .before .args .b .now))) ((faults (tableSize (sizeB (c .before .before .before .before .before .before .before .before .before .before .before .before .before .before .args .job)) (c .before .before .before .before .before .before .before .before .before .before .before .before .before .before .args .job .width)) (c .before .before .before .before .before .before .before .before .before .before .before .before .before .before .args .table .now)) ++ (faults (productSize (sizeA (c .before .before .before .before .before .before .before .before .before .before .before .before .before .before .args .job)) (sizeB (c .before .before .before .before .before .before .before .before .before .before .before .before .before .before .args .job))) (c .before .before .before .before .before .before .before .before .before .before .before .before .before .before .args .product .now))) (pair-positive (sizeA (c .before .before .before .before .before .before .before .before .before .before .before .before .before .before .args .job)) (sizeB (c .before .before .before .before .before .before .before .before .before .before .before .before .before .before .args .job)) _ _) (sym (c .before .before .before .either-fault .ensures) ∙ sym (c .before .before .number .ensures) ∙ c .before .if4 .left)))
 
 pub judged-spec : {M : Type 1} → statement M
 judged-spec =

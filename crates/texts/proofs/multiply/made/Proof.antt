@@ -5,7 +5,7 @@ use lib.ListN.{length}
 use Rattle.requests.specs.Answers.{answered}
 use Rattle.matrix.specs.Product.{productMeans}
 use Rattle.matrix.proofs.Demand3.{product-right}
-use Rattle.texts.proofs.FactorLaws.{product-tests, total-made}
+use Rattle.texts.proofs.ProductLaws.{product-tests, total-made}
 use borrow.Author.Needs.{needs}
 use borrow.Author.Needs.{needs}
 use Rattle.texts.proofs.multiply.made.Statement.{statement}

@@ -5,8 +5,9 @@ use lib.ListN.{length}
 use Rattle.buffers.specs.Buffer.{cell, Legal}
 use Rattle.steps.specs.Step.{Step}
 use Rattle.steps.specs.StepList.{each, blocks, blockAt}
+use Rattle.steps.specs.Turn.{due}
 use Rattle.steps.proofs.Loops.{each-end, each-split}
-use Rattle.walk.specs.Due.{due, Spent}
+use Rattle.walk.specs.Spent.{Spent}
 use Rattle.walk.specs.Ran.{Ran}
 use Rattle.walk.proofs.DueLaws.{due-nil, due-nothing, due-after, spent-none, spent-append}
 use Rattle.walk.proofs.PieceLaws.{each-last, joined, blocks-fit}

@@ -4,9 +4,10 @@ use lib.ListN.{length}
 use Rattle.cells.specs.Digit.{Matrix}
 use Rattle.buffers.specs.Buffer.{cell, Legal}
 use Rattle.steps.specs.StepList.{each, rowSteps}
+use Rattle.steps.specs.Turn.{due}
 use Rattle.steps.proofs.Fits.{fit-wider, row-fits}
 use Rattle.steps.proofs.Loops.{each-end}
-use Rattle.walk.specs.Due.{due, Spent}
+use Rattle.walk.specs.Spent.{Spent}
 use Rattle.walk.specs.Ran.{Ran}
 use Rattle.walk.proofs.DueLaws.{due-nil, spent-none, spent-append}
 use Rattle.walk.proofs.PieceLaws.{each-last, joined}

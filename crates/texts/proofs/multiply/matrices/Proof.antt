@@ -3,12 +3,12 @@ use mathlib.Core.List.{List}
 use Prim.Native.Nat.{ℕ, _-_}
 use Rattle.requests.specs.Answers.{number, first}
 use Rattle.texts.specs.MatrixText.{matrixTests}
-use Rattle.texts.proofs.FormLaws.{form-first, form-second, form-more, form-done, rest-length, factors-are}
+use Rattle.texts.proofs.FormLaws.{form-first, form-second, form-more, form-done, rest-length, matrices-are}
 use borrow.Author.Needs.{needs}
 use native.Mathlib.Omega.{arith}
 use borrow.Author.Needs.{needs}
-use Rattle.texts.proofs.multiply.factors.Statement.{statement}
-use Rattle.texts.proofs.multiply.factors.Tie as tie
+use Rattle.texts.proofs.multiply.matrices.Statement.{statement}
+use Rattle.texts.proofs.multiply.matrices.Tie as tie
 
 matrix-in-requires : tie.Need-matrix-in-requires
 matrix-in-requires c κs = (omega arith, c .before .before .before .before .pre .0)
@@ -62,10 +62,10 @@ same-length-7 : tie.Need-same-length-7
 same-length-7 c = search needs
 
 returns-4 : tie.Need-returns-4
-returns-4 c = (form-done (c .before .before .before .before .before .before .before .before .before .before .before .before .before .before .before .before .before .args .text .now) _ (c .before .before .before .before .before .before .before .before .before .before .before .before .matrix-in .ensures .0) (sym (c .before .before .before .before .before .before .before .before .before .number .ensures) ∙ c .before .before .before .before .before .before .before .before .if1 .left) _ (c .before .before .before .before .before .before .matrix-in2 .ensures .0 ∙ ap (λ (t : List ℕ). first (matrixTests t)) ((c .before .before .before .before .before .before .before .before .before .before .before .before .matrix-in .ensures .1 (sym (c .before .before .before .before .before .before .before .before .before .number .ensures) ∙ c .before .before .before .before .before .before .before .before .if1 .left)) .rest)) (sym (c .before .before .before .number2 .ensures) ∙ c .before .before .if2 .left) (omega (arith, c .if3 .left, rest-length (c .before .before .before .before .before .before .before .before .before .before .before .before .before .before .before .before .before .args .text .now) _ _ _ _ _ _ _ _ _ _ (c .before .before .before .before .before .before .before .before .before .before .before .before .matrix-in .ensures .1 (sym (c .before .before .before .before .before .before .before .before .before .number .ensures) ∙ c .before .before .before .before .before .before .before .before .if1 .left)) (c .before .before .before .before .before .before .matrix-in2 .ensures .1 (sym (c .before .before .before .number2 .ensures) ∙ c .before .before .if2 .left)))), λ _. factors-are (c .before .before .before .before .before .before .before .before .before .before .before .before .before .before .before .before .before .args .text .now) _ _ _ _ _ _ _ _ _ _ (c .before .before .before .before .before .before .before .before .before .before .before .before .matrix-in .ensures .1 (sym (c .before .before .before .before .before .before .before .before .before .number .ensures) ∙ c .before .before .before .before .before .before .before .before .if1 .left)) (c .before .before .before .before .before .before .matrix-in2 .ensures .1 (sym (c .before .before .before .number2 .ensures) ∙ c .before .before .if2 .left)))
+returns-4 c = (form-done (c .before .before .before .before .before .before .before .before .before .before .before .before .before .before .before .before .before .args .text .now) _ (c .before .before .before .before .before .before .before .before .before .before .before .before .matrix-in .ensures .0) (sym (c .before .before .before .before .before .before .before .before .before .number .ensures) ∙ c .before .before .before .before .before .before .before .before .if1 .left) _ (c .before .before .before .before .before .before .matrix-in2 .ensures .0 ∙ ap (λ (t : List ℕ). first (matrixTests t)) ((c .before .before .before .before .before .before .before .before .before .before .before .before .matrix-in .ensures .1 (sym (c .before .before .before .before .before .before .before .before .before .number .ensures) ∙ c .before .before .before .before .before .before .before .before .if1 .left)) .rest)) (sym (c .before .before .before .number2 .ensures) ∙ c .before .before .if2 .left) (omega (arith, c .if3 .left, rest-length (c .before .before .before .before .before .before .before .before .before .before .before .before .before .before .before .before .before .args .text .now) _ _ _ _ _ _ _ _ _ _ (c .before .before .before .before .before .before .before .before .before .before .before .before .matrix-in .ensures .1 (sym (c .before .before .before .before .before .before .before .before .before .number .ensures) ∙ c .before .before .before .before .before .before .before .before .if1 .left)) (c .before .before .before .before .before .before .matrix-in2 .ensures .1 (sym (c .before .before .before .number2 .ensures) ∙ c .before .before .if2 .left)))), λ _. matrices-are (c .before .before .before .before .before .before .before .before .before .before .before .before .before .before .before .before .before .args .text .now) _ _ _ _ _ _ _ _ _ _ (c .before .before .before .before .before .before .before .before .before .before .before .before .matrix-in .ensures .1 (sym (c .before .before .before .before .before .before .before .before .before .number .ensures) ∙ c .before .before .before .before .before .before .before .before .if1 .left)) (c .before .before .before .before .before .before .matrix-in2 .ensures .1 (sym (c .before .before .before .number2 .ensures) ∙ c .before .before .if2 .left)))
 
-pub factors-spec : {M : Type 1} → statement M
-factors-spec =
+pub matrices-spec : {M : Type 1} → statement M
+matrices-spec =
     tie.close
     (tie.spec
     matrix-in-requires
