@@ -8,7 +8,8 @@ use lib.ListN.{length}
 use Rattle.cells.proofs.AnyLaws.{or-left, or-right}
 use Rattle.requests.specs.declared.Size.{Size}
 use Rattle.requests.specs.Answers.{Tests, first, left, answered}
-use Rattle.requests.specs.Sizes.{over, unfit, faults}
+use Rattle.requests.specs.Sizes.{over, unfit}
+use Rattle.requests.specs.Faults.{faults}
 use Rattle.requests.specs.Single.{singleTests}
 use Rattle.requests.specs.Pair.{unequal, unfits, pairTests}
 use Rattle.requests.proofs.AnswerLaws.{None, first-none, append-given, later, refused, done-makes}

@@ -14,7 +14,8 @@ use Rattle.buffers.specs.Buffer.{planes, wide, words, bitAt, unit, sign, cell, 
 use Rattle.buffers.specs.Fault.{stray, padded}
 use Rattle.requests.specs.declared.Size.{Size}
 use Rattle.requests.specs.Answers.{first, left, answered}
-use Rattle.requests.specs.Sizes.{over, faults}
+use Rattle.requests.specs.Sizes.{over}
+use Rattle.requests.specs.Faults.{faults}
 use Rattle.requests.specs.Pair.{unequal}
 use Rattle.requests.proofs.ShownOut.{ShownOut, shown-out, AnswerShownOut, answer-shown-out}
 use Rattle.steps.specs.Matrix.{schoolbook}

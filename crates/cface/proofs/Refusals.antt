@@ -6,7 +6,7 @@ use Prim.Native.Nat.{ℕ}
 use lib.ListN.{length}
 use Rattle.buffers.specs.Buffer.{cell, encode}
 use Rattle.requests.specs.declared.Size.{Size}
-use Rattle.requests.specs.Sizes.{faults}
+use Rattle.requests.specs.Faults.{faults}
 use Rattle.requests.proofs.AnswerLaws.{None, Gives, given, gives, first-none, none-first, Exact, exact}
 use Rattle.steps.specs.Matrix.{schoolbook}
 use Rattle.matrix.specs.Opening.{openedOf}

@@ -14,7 +14,7 @@ use Rattle.buffers.specs.Buffer.{words, cell, Words, Legal, encode}
 use Rattle.buffers.proofs.BufferLaws.{tests-legal, encode-length, encode-words}
 use Rattle.requests.specs.declared.Size.{Size}
 use Rattle.requests.specs.Answers.{first, left}
-use Rattle.requests.specs.Sizes.{faults}
+use Rattle.requests.specs.Faults.{faults}
 use Rattle.requests.proofs.SizeLaws.{not-over}
 use Rattle.requests.proofs.AnswerLaws.{none-first, finished, done-makes, append-front}
 use Rattle.steps.specs.Matrix.{schoolbook}
@@ -42,7 +42,7 @@ use Rattle.cface.proofs.JobCarryLaws.{Fits, open-fits, open-same, turn-
 
 -- the job is read back from its record's words, whatever the last two are
 pub job-read : (job : Job) (made : ℕ) (ended : Bool) → jobIn (recordOf job made ended) ≡ job
-unfolding jobIn recordOf getD
+unfolding jobIn recordOf
 job-read job made ended = refl
 
 flag-lt : (ended : Bool) → cond ended 1 0 < 2
@@ -50,7 +50,7 @@ flag-lt true = omega arith
 flag-lt false = omega arith
 
 pub record-words : (job : Job) (made : ℕ) (ended : Bool) → job .m < 2 ^ 64 → job .l < 2 ^ 64 → job .n < 2 ^ 64 → job .width < 2 ^ 64 → job .done < 2 ^ 64 → made < 2 ^ 64 → Words (recordOf job made ended)
-unfolding recordOf getD
+unfolding recordOf
 record-words job made ended m l n w d h zero = m
 record-words job made ended m l n w d h (suc zero) = l
 record-words job made ended m l n w d h (suc (suc zero)) = n

@@ -4,7 +4,8 @@ use Prim.Native.Nat.{ℕ}
 use lib.ListN.{length}
 use Rattle.requests.specs.declared.Size.{Size}
 use Rattle.requests.specs.Answers.{Tests, first}
-use Rattle.requests.specs.Sizes.{over, faults}
+use Rattle.requests.specs.Sizes.{over}
+use Rattle.requests.specs.Faults.{faults}
 use Rattle.wordbytes.specs.Bytes.{wordsIn}
 use Rattle.cface.specs.Limit.{above, unfitBytes}
 

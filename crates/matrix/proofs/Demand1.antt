@@ -10,7 +10,7 @@ use Rattle.buffers.specs.Buffer.{cell, encode}
 use Rattle.requests.specs.declared.Size.{Size}
 use Rattle.requests.specs.declared.Answer.{Answer}
 use Rattle.requests.specs.Answers.{number}
-use Rattle.requests.specs.Sizes.{faults}
+use Rattle.requests.specs.Faults.{faults}
 use Rattle.requests.specs.Single.{singleTests}
 use Rattle.requests.specs.Pair.{pairTests}
 use Rattle.matrix.specs.declared.tally.Tallied.{Tallied}

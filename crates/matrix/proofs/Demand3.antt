@@ -16,7 +16,8 @@ use Rattle.buffers.proofs.BufferLaws.{tests-legal, cell-encode, encode-legal, e
 use Rattle.requests.specs.declared.Size.{Size}
 use Rattle.requests.specs.declared.Answer.{Answer}
 use Rattle.requests.specs.Answers.{number, first, answered}
-use Rattle.requests.specs.Sizes.{over, faults}
+use Rattle.requests.specs.Sizes.{over}
+use Rattle.requests.specs.Faults.{faults}
 use Rattle.requests.proofs.SizeLaws.{not-over, not-unfit}
 use Rattle.requests.proofs.AnswerLaws.{none-first, finished, done-makes}
 use Rattle.cells.specs.Counts.{sum}

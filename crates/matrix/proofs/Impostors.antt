@@ -15,7 +15,8 @@ use Rattle.buffers.specs.Buffer.{planes, wide, words, bitAt, unit, sign, cell, 
 use Rattle.buffers.specs.Fault.{stray, padded}
 use Rattle.requests.specs.declared.Size.{Size}
 use Rattle.requests.specs.Answers.{number, first, left, answered}
-use Rattle.requests.specs.Sizes.{over, unfit, faults}
+use Rattle.requests.specs.Sizes.{over, unfit}
+use Rattle.requests.specs.Faults.{faults}
 use Rattle.requests.specs.Single.{singleTests}
 use Rattle.requests.specs.Pair.{unequal, unfits, pairTests}
 use Rattle.requests.proofs.ShownOut.{ShownOut, shown-out, AnswerShownOut, answer-shown-out}

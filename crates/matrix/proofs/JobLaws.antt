@@ -16,7 +16,8 @@ use Rattle.buffers.specs.Buffer.{words, cell, Legal, encode}
 use Rattle.buffers.proofs.BufferLaws.{legal-tests, cell-encode, encode-within, encode-legal, zeros-encode}
 use Rattle.requests.specs.declared.Size.{Size}
 use Rattle.requests.specs.Answers.{first}
-use Rattle.requests.specs.Sizes.{over, unfit, faults}
+use Rattle.requests.specs.Sizes.{over, unfit}
+use Rattle.requests.specs.Faults.{faults}
 use Rattle.requests.proofs.SizeLaws.{over-rows, over-columns, unfit-long}
 use Rattle.requests.proofs.AnswerLaws.{positive, None, first-none, append-given, append-none, here, later}
 use Rattle.rows.specs.Row.{Written}

@@ -4,7 +4,8 @@ use Prim.Native.Nat.{ℕ}
 use lib.ListN.{length}
 use Rattle.requests.specs.declared.Size.{Size}
 use Rattle.requests.specs.Answers.{Tests, first}
-use Rattle.requests.specs.Sizes.{over, unfit, faults}
+use Rattle.requests.specs.Sizes.{over, unfit}
+use Rattle.requests.specs.Faults.{faults}
 
 unfoldable pub checkTests : Size → List ℕ → Tests
 checkTests s a = (over s, 1) ∷ (unfit s (length a), 4) ∷ faults s a

@@ -6,7 +6,8 @@ use lib.Dec.{ltb, eqb}
 use Rattle.buffers.specs.Buffer.{cell}
 use Rattle.requests.specs.declared.Size.{Size}
 use Rattle.requests.specs.Answers.{Tests}
-use Rattle.requests.specs.Sizes.{unfit, faults}
+use Rattle.requests.specs.Sizes.{unfit}
+use Rattle.requests.specs.Faults.{faults}
 use Rattle.steps.specs.Count.{total}
 
 -- 0 means the default

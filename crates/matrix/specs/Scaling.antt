@@ -8,7 +8,8 @@ use Rattle.cells.specs.Digit.{mul3}
 use Rattle.buffers.specs.Buffer.{cell, encode}
 use Rattle.requests.specs.declared.Size.{Size}
 use Rattle.requests.specs.Answers.{Tests, answered}
-use Rattle.requests.specs.Sizes.{over, unfit, faults}
+use Rattle.requests.specs.Sizes.{over, unfit}
+use Rattle.requests.specs.Faults.{faults}
 
 unfoldable pub scalingOf : ℕ → ℕ → ℕ → List ℕ → List ℕ
 scalingOf d r c a = encode r c (λ i j. mul3 (cell c a i j) d)

@@ -5,7 +5,8 @@ use lib.Dec.{ltb}
 use lib.ListN.{length}
 use Rattle.requests.specs.declared.Size.{Size}
 use Rattle.requests.specs.Answers.{Tests, answered}
-use Rattle.requests.specs.Sizes.{over, unfit, faults}
+use Rattle.requests.specs.Sizes.{over, unfit}
+use Rattle.requests.specs.Faults.{faults}
 use Rattle.matrix.specs.Job.{meant, totalOf, countless}
 
 -- the tests of what the list depends on: the sizes, the width and A

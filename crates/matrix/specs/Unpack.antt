@@ -6,7 +6,8 @@ use lib.ListN.{length}
 use Rattle.buffers.specs.Buffer.{cell}
 use Rattle.requests.specs.declared.Size.{Size}
 use Rattle.requests.specs.Answers.{Tests, answered}
-use Rattle.requests.specs.Sizes.{over, unfit, faults}
+use Rattle.requests.specs.Sizes.{over, unfit}
+use Rattle.requests.specs.Faults.{faults}
 use Rattle.matrix.specs.Unpacked.{bytes, unlike}
 
 unfoldable pub unpackOf : ℕ → ℕ → List ℕ → List ℕ

@@ -5,7 +5,8 @@ use Prim.Native.Nat.{ℕ}
 use lib.ListN.{length}
 use Rattle.requests.specs.declared.Size.{Size}
 use Rattle.requests.specs.Answers.{Tests}
-use Rattle.requests.specs.Sizes.{over, unfit, faults}
+use Rattle.requests.specs.Sizes.{over, unfit}
+use Rattle.requests.specs.Faults.{faults}
 
 -- n is how many words there are for the result, which is of size t
 unfoldable pub singleTests : Size → Size → List ℕ → ℕ → Tests

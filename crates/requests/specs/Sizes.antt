@@ -1,13 +1,9 @@
--- The tests of a size and of a buffer. Assumes nothing.
+-- The tests of a size, and of a length. Assumes nothing.
 use mathlib.Core.Bool.{Bool, not, _||_}
-use mathlib.Core.List.{List, [], _∷_}
 use Prim.Native.Nat.{ℕ}
 use lib.Dec.{ltb, eqb}
-use lib.ListN.{length}
 use Rattle.buffers.specs.Buffer.{words}
-use Rattle.buffers.specs.Fault.{stray, padded}
 use Rattle.requests.specs.declared.Size.{Size}
-use Rattle.requests.specs.Answers.{Tests}
 
 -- a row or column count is above a limit
 abbrev pub exceeds : ℕ → Size → Bool
@@ -20,7 +16,3 @@ over s = exceeds 1024 s
 -- n words are not exactly a matrix's
 unfoldable pub unfit : Size → ℕ → Bool
 unfit s n = not (eqb n (words (s .rows) (s .columns)))
-
--- in one buffer any 5 comes before any 6
-unfoldable pub faults : Size → List ℕ → Tests
-faults s ws = (stray (s .rows) (s .columns) ws, 5) ∷ (padded (s .rows) (s .columns) ws, 6) ∷ []

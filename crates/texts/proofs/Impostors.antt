@@ -8,7 +8,8 @@ use Rattle.cells.specs.Any.{any}
 use Rattle.buffers.specs.Buffer.{planes, wide, words, tab, joined, plane, encode}
 use Rattle.buffers.specs.Fault.{stray, padded}
 use Rattle.requests.specs.Answers.{first}
-use Rattle.requests.specs.Sizes.{over, faults}
+use Rattle.requests.specs.Sizes.{over}
+use Rattle.requests.specs.Faults.{faults}
 use Rattle.requests.proofs.ShownOut.{ShownOut, shown-out}
 use Rattle.steps.specs.Count.{total}
 use Rattle.steps.specs.StepList.{many, each, blocks, steps}

@@ -10,7 +10,8 @@ use borrow.Author.Tests.{le-ltb}
 use Rattle.buffers.specs.Buffer.{words, cell}
 use Rattle.requests.specs.declared.Size.{Size}
 use Rattle.requests.specs.Answers.{first}
-use Rattle.requests.specs.Sizes.{over, faults}
+use Rattle.requests.specs.Sizes.{over}
+use Rattle.requests.specs.Faults.{faults}
 use Rattle.requests.proofs.SizeLaws.{not-over, not-unfit}
 use Rattle.requests.proofs.AnswerLaws.{here, later, first-none, none-first, finished}
 use Rattle.steps.proofs.Counts.{total-small}

@@ -9,7 +9,8 @@ use Rattle.cells.specs.Digit.{unitOf, signOf}
 use Rattle.buffers.specs.Buffer.{planes, wide, words, bitAt, unit, sign, cell, tab, joined, plane, encode}
 use Rattle.buffers.specs.Fault.{stray, padded}
 use Rattle.requests.specs.Answers.{first}
-use Rattle.requests.specs.Sizes.{over, faults}
+use Rattle.requests.specs.Sizes.{over}
+use Rattle.requests.specs.Faults.{faults}
 use Rattle.steps.specs.Matrix.{schoolbook}
 use Rattle.steps.specs.Count.{total}
 use Rattle.steps.specs.StepList.{unless0, many, each, tableSteps, rowSteps, blockSteps, blocks, blockWidth, steps}

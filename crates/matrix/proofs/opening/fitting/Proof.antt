@@ -2,7 +2,8 @@ use mathlib.Core.Path.{sym, _∙_}
 use borrow.Author.Tests.{eq-eqb, ne-eqb, lt-ltb, le-ltb}
 use Rattle.cells.proofs.AnyLaws.{or-left, or-right}
 use Rattle.requests.specs.Answers.{first}
-use Rattle.requests.specs.Sizes.{over, faults}
+use Rattle.requests.specs.Sizes.{over}
+use Rattle.requests.specs.Faults.{faults}
 use Rattle.requests.proofs.AnswerLaws.{append-given, append-none}
 use Rattle.requests.proofs.PairLaws.{faults-positive}
 use Rattle.matrix.specs.Job.{meant}

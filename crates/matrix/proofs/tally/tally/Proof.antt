@@ -4,7 +4,7 @@ use Prim.Native.Nat.{ℕ}
 use lib.Dec.{eqb}
 use lib.ListN.{getD}
 use Rattle.buffers.proofs.BufferLaws.{legal-tests}
-use Rattle.requests.specs.Sizes.{faults}
+use Rattle.requests.specs.Faults.{faults}
 use Rattle.requests.proofs.SizeLaws.{over-columns, unfit-long}
 use Rattle.requests.proofs.AnswerLaws.{None, first-none, refused, finished}
 use Rattle.rows.specs.Tally.{tallyRow}

@@ -1,5 +1,5 @@
 use mathlib.Core.Path.{sym, _∙_}
-use Rattle.requests.specs.Sizes.{faults}
+use Rattle.requests.specs.Faults.{faults}
 use Rattle.requests.proofs.AnswerLaws.{append-given, append-none}
 use Rattle.requests.proofs.PairLaws.{faults-positive}
 use borrow.Author.Needs.{needs}

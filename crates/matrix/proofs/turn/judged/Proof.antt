@@ -4,7 +4,8 @@ use borrow.Author.Tests.{ltb-false}
 use Rattle.cells.proofs.AnyLaws.{or-left, or-right}
 use lib.Dec.{ltb, eqb}
 use Rattle.requests.specs.Answers.{first}
-use Rattle.requests.specs.Sizes.{over, faults}
+use Rattle.requests.specs.Sizes.{over}
+use Rattle.requests.specs.Faults.{faults}
 use Rattle.requests.proofs.AnswerLaws.{append-given, append-none}
 use Rattle.requests.proofs.SizeLaws.{over-rows, over-columns}
 use Rattle.walk.proofs.CountLaws.{shift-one}

@@ -1,6 +1,6 @@
 use mathlib.Core.Path.{sym, _∙_}
 use Rattle.requests.specs.Answers.{first}
-use Rattle.requests.specs.Sizes.{faults}
+use Rattle.requests.specs.Faults.{faults}
 use Rattle.requests.proofs.SizeLaws.{over-rows, over-columns, unfit-long}
 use Rattle.requests.proofs.faults.fault.Statement.{statement}
 use Rattle.requests.proofs.faults.fault.Tie as tie

@@ -1,7 +1,8 @@
 use mathlib.Core.Path.{sym, _∙_}
 use Rattle.cells.proofs.AnyLaws.{or-left, or-right}
 use Rattle.requests.specs.Answers.{first}
-use Rattle.requests.specs.Sizes.{over, faults}
+use Rattle.requests.specs.Sizes.{over}
+use Rattle.requests.specs.Faults.{faults}
 use Rattle.requests.specs.Pair.{pairTests}
 use Rattle.requests.proofs.AnswerLaws.{append-given, append-none}
 use Rattle.requests.proofs.PairLaws.{fits-a, fits-b, faults-positive}
