@@ -2,7 +2,7 @@
 -- any accepted turns with any budgets on the bytes as last left, the record's words are m, l, n, the width, and the smaller of the budgets' sum
 -- and the list's length; table and product are the bytes of what that many first steps leave. At the end the product is the schoolbook one.
 -- Assumes nothing.
-use mathlib.Core.Path.{_≡_, refl, sym, ap, subst, _∙_}
+use mathlib.Core.Path.{_≡_, refl, sym, ap, _∙_}
 use mathlib.Core.Bool.{Bool, true, false, not, cond}
 use mathlib.Core.List.{List, [], _∷_}
 use Prim.Native.Nat.{ℕ, zero, suc, _+_, _*_, _/_, _^_, _≤_, _<_, min}
@@ -21,9 +21,9 @@ use Rattle.steps.specs.Matrix.{schoolbook}
 use Rattle.steps.specs.Step.{State, run, opening}
 use Rattle.steps.specs.StepList.{steps}
 use Rattle.steps.specs.Count.{total}
-use Rattle.steps.specs.Turn.{after, made, allBudgets}
+use Rattle.steps.specs.Turn.{after, made, allBudgets, Given}
 use Rattle.steps.proofs.Counts.{total-small}
-use Rattle.steps.proofs.Turns.{made-done, min-more}
+use Rattle.steps.proofs.Turns.{made-done, turns-from-start}
 use Rattle.matrix.specs.declared.job.Job.{Job}
 use Rattle.matrix.specs.Job.{meant, tableSize, productSize, totalOf}
 use Rattle.matrix.specs.Opening.{openedOf}
@@ -73,12 +73,15 @@ fits s n e = rw (eq-eqb n (8 * words (s .rows) (s .columns)) e)
 encoded-length : (r c : ℕ) (M : ℕ → ℕ → ℕ) → length (bytesOf (encode r c M)) ≡ 8 * words r c
 encoded-length r c M = bytes-length (encode r c M) ∙ ap (λ (n : ℕ). 8 * n) (encode-length r c M)
 
--- ---- turns that are given one after another: each is handed the bytes as last left, and is accepted
+-- ---- turns
 
-pub data Turns (a b : List ℕ) : List ℕ → List ℕ → List ℕ → List ℕ → List ℕ → List ℕ → List ℕ → Type 0 where
-  none : {job t p : List ℕ} → Turns a b job t p [] job t p
-  more : {job t p job₁ t₁ p₁ job₂ t₂ p₂ budgets : List ℕ} (budget : ℕ) → _≡_ {A = ℕ × (List ℕ × (List ℕ × List ℕ))} (0, (job₁, (t₁, p₁))) (turnFace job a b t p budget)
-      → Turns a b job₁ t₁ p₁ budgets job₂ t₂ p₂ → Turns a b job t p (budget ∷ budgets) job₂ t₂ p₂
+-- the bytes that a host holds of a job between turns: record, table and product
+abbrev pub Held : Type 0
+Held = List ℕ × (List ℕ × List ℕ)
+
+-- an accepted turn, which is handed the bytes as last left
+abbrev pub Accepted : List ℕ → List ℕ → ℕ → Held → Held → Type 0
+Accepted a b budget s s₁ = _≡_ {A = ℕ × Held} (0, s₁) (turnFace (s .0) a b (s .1 .0) (s .1 .1) budget)
 
 module _ (x y : Size) (w : ℕ) (a b : List ℕ) (hm : x .rows ≤ 64) (hl : x .columns ≤ 64) (hn : y .columns ≤ 64) (hw : w ≤ 8) (la : length a ≡ 8 * words (x .rows) (x .columns)) (lb : length b ≡ 8 * words (x .columns) (y .columns)) (LA : Legal (x .rows) (x .columns) (wordsIn a)) (LB : Legal (x .columns) (y .columns) (wordsIn b)) where
   im : x .rows ≤ 1024
@@ -207,11 +210,13 @@ module _ (x y : Size) (w : ℕ) (a b : List ℕ) (hm : x .rows ≤ 64) (hl : x .
   unfolding Outcome
   accepted d budget job t p h S = ap (λ (o : Outcome). o .0) (next-stands d budget job t p h S)
 
-  one-turn : (d budget : ℕ) (job t p job₁ t₁ p₁ : List ℕ) → d ≤ long → Stands d job t p → _≡_ {A = ℕ × (List ℕ × (List ℕ × List ℕ))} (0, (job₁, (t₁, p₁))) (turnFace job a b t p budget)
-      → Stands (next d budget) job₁ t₁ p₁
+  abbrev Stand : ℕ → Held → Type 0
+  Stand d s = Stands d (s .0) (s .1 .0) (s .1 .1)
+
+  one-turn : (d budget : ℕ) (s s₁ : Held) → d ≤ long → Stand d s → Accepted a b budget s s₁ → Stand (next d budget) s₁
   unfolding Outcome made total
-  one-turn d budget job t p job₁ t₁ p₁ h S says =
-      let e = says ∙ next-stands d budget job t p h S in
+  one-turn d budget s s₁ h S says =
+      let e = says ∙ next-stands d budget (s .0) (s .1 .0) (s .1 .1) h S in
       record {
         made = makes d budget;
         ended = eqb (next d budget) long;
@@ -221,13 +226,8 @@ module _ (x y : Size) (w : ℕ) (a b : List ℕ) (hm : x .rows ≤ 64) (hl : x .
         product-is = ap (λ (o : Outcome). o .1 .1 .1) e;
       }
 
-  pub turns-stand : (budgets : List ℕ) (d : ℕ) (job t p job₁ t₁ p₁ : List ℕ) → d ≤ long → Stands d job t p → Turns a b job t p budgets job₁ t₁ p₁
-      → Stands (min (d + allBudgets budgets) long) job₁ t₁ p₁
-  unfolding allBudgets
-  turns-stand [] d job t p job₁ t₁ p₁ h S none = let e : min (d + 0) long ≡ d = omega arith in rw e S
-  turns-stand (budget ∷ budgets) d job t p job₁ t₁ p₁ h S (more _ says rest) =
-      subst (λ (j : ℕ). Stands j job₁ t₁ p₁) (min-more d budget (allBudgets budgets) long)
-      (turns-stand budgets (next d budget) _ _ _ job₁ t₁ p₁ (omega arith) (one-turn d budget job t p _ _ _ h S says) rest)
+  pub turns-stand : (budgets : List ℕ) (s s₁ : Held) → Stand 0 s → Given (Accepted a b) s budgets s₁ → Stand (min (allBudgets budgets) long) s₁
+  turns-stand = turns-from-start (Accepted a b) Stand long one-turn
 
   -- the end: the schoolbook product, for every width
   pub end-stands : (d : ℕ) → long ≤ d → productAt d ≡ bytesOf (encode (x .rows) (y .columns) (schoolbook (x .columns) (cell (x .columns) (wordsIn a)) (cell (y .columns) (wordsIn b))))
@@ -267,16 +267,13 @@ module _ (x y : Size) (w : ℕ) (job a b t p job₀ t₀ p₀ : List ℕ) (opene
     product-is = ap (λ (o : List ℕ × (List ℕ × List ℕ)). o .1 .1) (as-new .1);
   }
 
-  module _ (budgets : List ℕ) (job₁ t₁ p₁ : List ℕ) (given : Turns a b job₀ t₀ p₀ budgets job₁ t₁ p₁) where
+  module _ (budgets : List ℕ) (job₁ t₁ p₁ : List ℕ) (given : Given (Accepted a b) (job₀, (t₀, p₀)) budgets (job₁, (t₁, p₁))) where
     abbrev reached : ℕ
     reached = min (allBudgets budgets) (totalOf x (meant w) (wordsIn a))
 
     -- the record stands at the smaller of the budgets' sum and the list's length, and the buffers hold what that many first steps leave
     pub demand-3 : Standing reached job₁ t₁ p₁
-    demand-3 =
-        let e : min (0 + allBudgets budgets) (totalOf x (meant w) (wordsIn a)) ≡ reached = omega arith in
-        subst (λ (d : ℕ). Standing d job₁ t₁ p₁) e
-        (turns-stand x y w a b (F .m) (F .l) (F .n) (F .narrow) (F .bytes-a) (F .bytes-b) (facts .left) (facts .right) budgets 0 job₀ t₀ p₀ job₁ t₁ p₁ (omega arith) started given)
+    demand-3 = turns-stand x y w a b (F .m) (F .l) (F .n) (F .narrow) (F .bytes-a) (F .bytes-b) (facts .left) (facts .right) budgets (job₀, (t₀, p₀)) (job₁, (t₁, p₁)) started given
 
     -- at the end the product is the schoolbook one, whatever the width
     pub demand-3-end : totalOf x (meant w) (wordsIn a) ≤ allBudgets budgets → p₁ ≡ bytesOf (encode (x .rows) (y .columns) (schoolbook (x .columns) (cell (x .columns) (wordsIn a)) (cell (y .columns) (wordsIn b))))

@@ -25,12 +25,12 @@ use Rattle.steps.specs.Matrix.{schoolbook}
 use Rattle.steps.specs.Step.{State, run, opening}
 use Rattle.steps.specs.StepList.{steps}
 use Rattle.steps.specs.Count.{quote, total}
-use Rattle.steps.specs.Turn.{after, made, turn, allBudgets}
+use Rattle.steps.specs.Turn.{after, made, turn, allBudgets, Given}
 use Rattle.steps.proofs.Counts.{total-le, total-small}
 use Rattle.steps.proofs.Product.{steps-right}
 use Rattle.steps.proofs.Running.{run-digits, opening-digits}
 use Rattle.steps.proofs.Same.{SameState}
-use Rattle.steps.proofs.Turns.{made-done, min-more, after-all, turn-same}
+use Rattle.steps.proofs.Turns.{made-done, after-all, turn-same, turns-from-start}
 use Rattle.walk.specs.Ran.{found}
 use Rattle.matrix.specs.declared.job.Job.{Job}
 use Rattle.matrix.specs.Job.{meant, tableSize, productSize, misfit, totalOf}
@@ -39,12 +39,17 @@ use Rattle.matrix.specs.Turn.{sizeA, sizeB, foundTests, turnTests, turne
 use Rattle.matrix.specs.Product.{endOf, productMeans}
 use Rattle.matrix.proofs.JobLaws.{meant-pos, meant-le, Fitting, opening-ready, turn-none}
 
--- turns that are given one after another: each is handed the record last answered and the same matrices, table and product, and is accepted
-pub data Turns (a b : List ℕ) : Job → List ℕ → List ℕ → List ℕ → Job → List ℕ → List ℕ → Type 0 where
-  none : {job : Job} {t p : List ℕ} → Turns a b job t p [] job t p
-  more : {job job₁ job₂ : Job} {t p t₁ p₁ t₂ p₂ budgets : List ℕ} (budget : ℕ) (answer : Answer) (made : ℕ) (ended : Bool)
-      → (number answer, (job₁, (made, (ended, (t₁, p₁))))) ≡ turnMeans job a b t p budget → number answer ≡ 0 → Turns a b job₁ t₁ p₁ budgets job₂ t₂ p₂
-      → Turns a b job t p (budget ∷ budgets) job₂ t₂ p₂
+-- what a host holds of a job between turns: record, table and product
+abbrev pub Held : Type 0
+Held = Job × (List ℕ × List ℕ)
+
+-- an accepted turn, which is handed the record last answered and the same matrices, table and product
+pub record Accepted (a b : List ℕ) (budget : ℕ) (s s₁ : Held) : Type 0 where
+  pub answer : Answer
+  pub made : ℕ
+  pub ended : Bool
+  pub says : (number answer, (s₁ .0, (made, (ended, s₁ .1)))) ≡ turnMeans (s .0) a b (s .1 .0) (s .1 .1) budget
+  pub done : number answer ≡ 0
 
 module _ (x y : Size) (w : ℕ) (a b : List ℕ) (hm : x .rows ≤ 1024) (hl : x .columns ≤ 1024) (hn : y .columns ≤ 1024) (hw : w ≤ 8) (LA : Legal (x .rows) (x .columns) a) (LB : Legal (x .columns) (y .columns) b) where
   abbrev m : ℕ
@@ -161,26 +166,21 @@ module _ (x y : Size) (w : ℕ) (a b : List ℕ) (hm : x .rows ≤ 1024) (hl : x
   Outcome : Type 0
   Outcome = ℕ × (Job × (ℕ × (Bool × (List ℕ × List ℕ))))
 
-  -- one turn
-  one-turn : (d budget : ℕ) (job job₁ : Job) (t p t₁ p₁ : List ℕ) (answer : Answer) (made : ℕ) (ended : Bool) → d ≤ long → Stands d job t p
-      → (number answer, (job₁, (made, (ended, (t₁, p₁))))) ≡ turnMeans job a b t p budget → Stands (next d budget) job₁ t₁ p₁
+  abbrev Stand : ℕ → Held → Type 0
+  Stand d s = Stands d (s .0) (s .1 .0) (s .1 .1)
+
+  one-turn : (d budget : ℕ) (s s₁ : Held) → d ≤ long → Stand d s → Accepted a b budget s s₁ → Stand (next d budget) s₁
   unfolding Outcome
-  one-turn d budget job job₁ t p t₁ p₁ answer made ended h S says =
-      let e = says ∙ meaning d budget job t p S ∙ turn-at d budget h in
+  one-turn d budget s s₁ h S turned =
+      let e = turned .says ∙ meaning d budget (s .0) (s .1 .0) (s .1 .1) S ∙ turn-at d budget h in
       record {
         record-is = ap (λ (o : Outcome). o .1 .0) e;
         table-is = ap (λ (o : Outcome). o .1 .1 .1 .1 .0) e;
         product-is = ap (λ (o : Outcome). o .1 .1 .1 .1 .1) e;
       }
 
-  -- any turns
-  pub turns-at : (budgets : List ℕ) (d : ℕ) (job job₁ : Job) (t p t₁ p₁ : List ℕ) → d ≤ long → Stands d job t p → Turns a b job t p budgets job₁ t₁ p₁
-      → Stands (min (d + allBudgets budgets) long) job₁ t₁ p₁
-  unfolding allBudgets
-  turns-at [] d job job₁ t p t₁ p₁ h S none = let e : min (d + 0) long ≡ d = omega arith in rw e S
-  turns-at (budget ∷ budgets) d job job₁ t p t₁ p₁ h S (more _ answer made ended says ok rest) =
-      subst (λ (j : ℕ). Stands j job₁ t₁ p₁) (min-more d budget (allBudgets budgets) long)
-      (turns-at budgets (next d budget) _ job₁ _ _ t₁ p₁ (omega arith) (one-turn d budget job _ t p _ _ answer made ended h S says) rest)
+  pub turns-at : (budgets : List ℕ) (s s₁ : Held) → Stand 0 s → Given (Accepted a b) s budgets s₁ → Stand (min (allBudgets budgets) long) s₁
+  turns-at = turns-from-start (Accepted a b) Stand long one-turn
 
   -- the start
   start : Stands 0 (newJob x y w) (encode (2 ^ k) n (λ i j. 0)) (encode m n (λ i j. 0))
@@ -244,16 +244,13 @@ module _ (x y : Size) (w : ℕ) (a b t p : List ℕ) (r : Answer) (job₀ : Job)
         product-is = ap (λ (o : Job × (List ℕ × List ℕ)). o .1 .1) (as-new .1) ∙ S .product-is;
       }
 
-  module _ (budgets : List ℕ) (job₁ : Job) (t₁ p₁ : List ℕ) (turned : Turns a b job₀ t₀ p₀ budgets job₁ t₁ p₁) where
+  module _ (budgets : List ℕ) (job₁ : Job) (t₁ p₁ : List ℕ) (given : Given (Accepted a b) (job₀, (t₀, p₀)) budgets (job₁, (t₁, p₁))) where
     abbrev reached : ℕ
     reached = min (allBudgets budgets) (totalOf x (meant w) a)
 
     -- the job stands at the smaller of the budgets' sum and the list's length, and holds what that many first steps leave
     pub demand-3 : Standing reached job₁ t₁ p₁
-    demand-3 =
-        let e : min (0 + allBudgets budgets) (totalOf x (meant w) a) ≡ reached = omega arith in
-        subst (λ (d : ℕ). Standing d job₁ t₁ p₁) e
-        (turns-at x y w a b (facts .m) (facts .l) (facts .n) (facts .width) (facts .left) (facts .right) budgets 0 job₀ job₁ t₀ p₀ t₁ p₁ (omega arith) started turned)
+    demand-3 = turns-at x y w a b (facts .m) (facts .l) (facts .n) (facts .width) (facts .left) (facts .right) budgets (job₀, (t₀, p₀)) (job₁, (t₁, p₁)) started given
 
     -- at the end the product is the schoolbook one, whatever the width
     pub demand-3-end : totalOf x (meant w) a ≤ allBudgets budgets → p₁ ≡ encode (x .rows) (y .columns) (schoolbook (x .columns) (cell (x .columns) a) (cell (y .columns) b))

@@ -10,11 +10,10 @@ use Rattle.cells.specs.Digit.{Matrix}
 use Rattle.steps.specs.Matrix.{Digits, schoolbook}
 use Rattle.steps.specs.Step.{Step, State, run, opening}
 use Rattle.steps.specs.StepList.{steps}
-use Rattle.steps.specs.Count.{quote, total}
-use Rattle.steps.specs.Turn.{after, due, made, turn, turns, allBudgets, placeAt}
+use Rattle.steps.specs.Count.{total}
+use Rattle.steps.specs.Turn.{after, due, made, Place, turn, Given, none, more, allBudgets, placeAt}
 use Rattle.steps.proofs.Running.{run-append}
 use Rattle.steps.proofs.Product.{steps-right}
-use Rattle.steps.proofs.Counts.{total-le}
 use Rattle.steps.proofs.Fits.{fit-take, fit-drop, steps-fit}
 use Rattle.steps.proofs.Same.{SameState, run-same}
 
@@ -26,6 +25,22 @@ made-done ps d budget h = omega arith
 -- and so do two turns, by the sum of their budgets
 pub min-more : (d b c e : ℕ) → min (min (d + b) e + c) e ≡ min (d + (b + c)) e
 min-more d b c e = omega arith
+
+-- whatever stands at d, and after each turn as far on as the budget and the length allow, does so after any turns by the sum of their budgets
+pub any-turns : {S : Type 0} (R : ℕ → S → S → Type 0) (Stands : ℕ → S → Type 0) (long : ℕ)
+    → ((d budget : ℕ) (s s₁ : S) → d ≤ long → Stands d s → R budget s s₁ → Stands (min (d + budget) long) s₁)
+    → (budgets : List ℕ) (d : ℕ) (s s₁ : S) → d ≤ long → Stands d s → Given R s budgets s₁ → Stands (min (d + allBudgets budgets) long) s₁
+unfolding allBudgets
+any-turns R Stands long one [] d s s₁ h at none = let e : min (d + 0) long ≡ d = omega arith in rw e at
+any-turns R Stands long one (budget ∷ budgets) d s s₁ h at (more _ turned rest) =
+    rw (← (min-more d budget (allBudgets budgets) long))
+    (any-turns R Stands long one budgets (min (d + budget) long) _ s₁ (omega arith) (one d budget s _ h at turned) rest)
+
+-- from the start
+pub turns-from-start : {S : Type 0} (R : ℕ → S → S → Type 0) (Stands : ℕ → S → Type 0) (long : ℕ)
+    → ((d budget : ℕ) (s s₁ : S) → d ≤ long → Stands d s → R budget s s₁ → Stands (min (d + budget) long) s₁)
+    → (budgets : List ℕ) (s s₁ : S) → Stands 0 s → Given R s budgets s₁ → Stands (min (allBudgets budgets) long) s₁
+turns-from-start R Stands long one budgets s s₁ at given = rw zero-add at (any-turns R Stands long one budgets 0 s s₁ (omega arith) at given)
 
 module _ (B : Matrix) (ps : List Step) (st : State) where
   -- b steps more after a of them are a + b steps
@@ -46,19 +61,14 @@ module _ (B : Matrix) (ps : List Step) (st : State) where
       = resume d (made ps d budget) ∙ ap (λ (j : ℕ). after B ps st j) e₁ in
       λ i. record { done = e₁ i; state = e₂ i }
 
-  pub turns-stand : (budgets : List ℕ) (d : ℕ) → d ≤ length ps
-      → turns B ps budgets (placeAt B ps st d) ≡ placeAt B ps st (min (d + allBudgets budgets) (length ps))
-  unfolding turns allBudgets
-  turns-stand [] d h = let e : min (d + 0) (length ps) ≡ d = omega arith in rw e
-  turns-stand (budget ∷ budgets) d h =
-      rw (turn-stands d budget h, turns-stand budgets (min (d + budget) (length ps)) (omega arith), min-more d budget (allBudgets budgets) (length ps))
+  -- a turn of the list alone
+  abbrev pub Made : ℕ → Place → Place → Type 0
+  Made budget at at₁ = at₁ ≡ turn B ps budget at
 
-  -- from the start
-  pub turns-from-start : (budgets : List ℕ)
-      → turns B ps budgets (record { done = 0; state = st })
-      ≡ record { done = min (allBudgets budgets) (length ps); state = after B ps st (min (allBudgets budgets) (length ps)) }
+  pub turns-stand : (budgets : List ℕ) (at₁ : Place) → Given Made (record { done = 0; state = st }) budgets at₁ → at₁ ≡ placeAt B ps st (min (allBudgets budgets) (length ps))
   unfolding placeAt after run
-  turns-from-start budgets = rw zero-add at (turns-stand budgets 0 (omega arith))
+  turns-stand budgets at₁ given =
+      turns-from-start Made (λ d at. at ≡ placeAt B ps st d) (length ps) (λ d budget at at₁ h e made. made ∙ ap (turn B ps budget) e ∙ turn-stands d budget h) budgets _ at₁ refl given
 
 -- A turn on cells that agree, within the sizes, with those that the first d steps of the list leave: then so do the cells after it, with those
 -- that the steps leave at which it stands.
@@ -72,14 +82,11 @@ turn-same k m l n A B pos start st d budget h same =
     (run-same k m l n B B (λ i j p q. refl) (due d (made ps d budget) ps) st (after B ps start d)
     (fit-take m l k (made ps d budget) (drop d ps) (fit-drop m l k d ps (steps-fit m l k A pos))) same)
 
--- budgets that reach the total, or the quote, give the schoolbook product
+-- budgets that reach the total give the schoolbook product
 pub turns-right : (m l : ℕ) (A B : Matrix) → Digits m l A → (k : ℕ) → 0 < k → (budgets : List ℕ) → total m l k A ≤ allBudgets budgets
-    → (i : ℕ) → i < m → (j : ℕ) → turns B (steps m l k A) budgets (record { done = 0; state = opening }) .state .product i j ≡ schoolbook l A B i j
-unfolding total
-turns-right m l A B digits k pos budgets h i lt j =
-    rw (turns-from-start B (steps m l k A) opening budgets, after-all B (steps m l k A) opening (min (allBudgets budgets) (length (steps m l k A))) (omega arith))
-    (steps-right m l A B digits k pos i lt j)
-
-pub quote-enough : (m l : ℕ) (A B : Matrix) → Digits m l A → (k : ℕ) → 0 < k → (budgets : List ℕ) → quote m l k ≤ allBudgets budgets
-    → (i : ℕ) → i < m → (j : ℕ) → turns B (steps m l k A) budgets (record { done = 0; state = opening }) .state .product i j ≡ schoolbook l A B i j
-quote-enough m l A B digits k pos budgets h = turns-right m l A B digits k pos budgets (omega (arith, total-le m l k A))
+    → (at : Place) → Given (Made B (steps m l k A) opening) (record { done = 0; state = opening }) budgets at → (i : ℕ) → i < m → (j : ℕ) → at .state .product i j ≡ schoolbook l A B i j
+unfolding total placeAt
+turns-right m l A B digits k pos budgets h at given i lt j =
+    ap (λ (p : Place). p .state .product i j) (turns-stand B (steps m l k A) opening budgets at given)
+    ∙ ap (λ (st : State). st .product i j) (after-all B (steps m l k A) opening (min (allBudgets budgets) (length (steps m l k A))) (omega arith))
+    ∙ steps-right m l A B digits k pos i lt j

@@ -29,10 +29,10 @@ turn B ps budget at = record {
   state = run B (due (at .done) (made ps (at .done) budget) ps) (at .state);
 }
 
--- a turn for each budget
-unfoldable pub turns : Matrix → List Step → List ℕ → Place → Place
-turns B ps [] at = at
-turns B ps (budget ∷ budgets) at = turns B ps budgets (turn B ps budget at)
+-- turns that are given one after another, a budget each: R budget s s₁ says what a turn leaves of what was there
+pub data Given {S : Type 0} (R : ℕ → S → S → Type 0) : S → List ℕ → S → Type 0 where
+  none : {s : S} → Given R s [] s
+  more : {s s₁ s₂ : S} {budgets : List ℕ} (budget : ℕ) → R budget s s₁ → Given R s₁ budgets s₂ → Given R s (budget ∷ budgets) s₂
 
 unfoldable pub allBudgets : List ℕ → ℕ
 allBudgets [] = 0
