@@ -26,8 +26,8 @@ abbrev short : ℕ → ℕ
 short n = 12 - n
 
 -- A without rows and columns, and B without rows; then their product and its total, which is 0. The digit d is how many columns B has
-abbrev factors : ℕ → List ℕ
-factors d = 48 ∷ 48 ∷ 48 ∷ 48 ∷ 48 ∷ 48 ∷ 48 ∷ 48 ∷ 10 ∷ 48 ∷ 48 ∷ 48 ∷ 48 ∷ 48 ∷ 48 ∷ 48 ∷ d ∷ 10 ∷ []
+abbrev input : ℕ → List ℕ
+input d = 48 ∷ 48 ∷ 48 ∷ 48 ∷ 48 ∷ 48 ∷ 48 ∷ 48 ∷ 10 ∷ 48 ∷ 48 ∷ 48 ∷ 48 ∷ 48 ∷ 48 ∷ 48 ∷ d ∷ 10 ∷ []
 
 abbrev printed : ℕ → List ℕ
 printed d = 48 ∷ 48 ∷ 48 ∷ 48 ∷ 48 ∷ 48 ∷ 48 ∷ d ∷ 10 ∷ 48 ∷ 48 ∷ 48 ∷ 48 ∷ 48 ∷ 48 ∷ 48 ∷ 48 ∷ 10 ∷ []
@@ -35,11 +35,11 @@ printed d = 48 ∷ 48 ∷ 48 ∷ 48 ∷ 48 ∷ 48 ∷ 48 ∷ d ∷ 10 ∷ 48 ∷
 abbrev means : List ℕ → List ℕ → ℕ × List ℕ
 means out text = (short (multiplyMeans text out .0), multiplyMeans text out .1)
 
-texts : (means (printed 48) (factors 48) ≡ (0, printed 48)) × (means (printed 48) (factors 49) ≡ (0, printed 49))
+texts : (means (printed 48) (input 48) ≡ (0, printed 48)) × (means (printed 48) (input 49) ≡ (0, printed 49))
 unfolding multiplyMeans placed laid multiplyText answerText productText framesOf multiplyTests productTests formTests matrixTests headTests above restOf wordsIn sizeIn linesOf wordsRead misread lineLong readHeaderTests sizeOf headerOf unframed undigit valueOf hexOf nibble byteOf digitOf steps blocks each many meant total faults over first padded stray encode plane joined tab words wide planes any
 texts = (refl, refl)
 
-pub multiply-shown-out : ShownOut {X = List ℕ} {I = List ℕ} {S = List ℕ} short means
+pub multiply-shown-out : ShownOut {X = List ℕ} {I = List ℕ} {S = List ℕ} short (λ out text. (short (multiplyMeans text out .0), multiplyMeans text out .1))
 multiply-shown-out =
-    shown-out short means (printed 48) (factors 48) (factors 49) (printed 48) (printed 49) (texts .0) (texts .1)
+    shown-out short means (printed 48) (input 48) (input 49) (printed 48) (printed 49) (texts .0) (texts .1)
     (λ e. let z : _≡_ {A = ℕ} 48 49 = ap (λ (l : List ℕ). getD l 7 0) e in omega arith)
