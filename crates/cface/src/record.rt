@@ -1,7 +1,5 @@
 // A job's record as a buffer of seven words.
 ghost use mathlib.Core.Path.{_≡_};
-ghost use mathlib.Core.Bool.{false};
-ghost use Prim.Native.Nat.{_*_};
 ghost use lib.ListN.{length};
 ghost use Rattle.wordbytes.specs.Bytes.{wordsIn, bytesOf};
 ghost use Rattle.cface.specs.Record.{jobIn, recordOf};

@@ -1,8 +1,6 @@
 // A turn: the next steps of a job's list, as many as the budget allows or until the list ends.
 ghost use mathlib.Core.Path.{_≡_};
-ghost use mathlib.Core.Bool.{_||_};
 ghost use Prim.Native.Nat.{_*_};
-ghost use lib.Dec.{ltb, eqb};
 ghost use lib.ListN.{length};
 ghost use Rattle.requests.specs.Answers.{number, first};
 ghost use Rattle.wordbytes.specs.Bytes.{wordsIn};

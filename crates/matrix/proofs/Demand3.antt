@@ -3,7 +3,7 @@
 -- first steps leave. At the end the product is the schoolbook one, and the length never exceeds the quote. Assumes nothing.
 use mathlib.Core.Path.{_≡_, refl, sym, ap, subst, _∙_}
 use mathlib.Core.Bool.{Bool, true}
-use mathlib.Core.List.{List, [], _∷_}
+use mathlib.Core.List.{List, []}
 use Prim.Native.Nat.{ℕ, zero, suc, _+_, _^_, _≤_, min}
 use native.Mathlib.Omega.{arith}
 use lib.Dec.{eqb}
@@ -15,8 +15,7 @@ use Rattle.buffers.proofs.SizeLaws.{cell-lt}
 use Rattle.buffers.proofs.BufferLaws.{tests-legal, cell-encode, encode-legal, encode-within}
 use Rattle.requests.specs.declared.Size.{Size}
 use Rattle.requests.specs.declared.Answer.{Answer}
-use Rattle.requests.specs.Answers.{number, first, answered}
-use Rattle.requests.specs.Sizes.{over}
+use Rattle.requests.specs.Answers.{number, first}
 use Rattle.requests.specs.Faults.{faults}
 use Rattle.requests.proofs.SizeLaws.{not-over, not-unfit}
 use Rattle.requests.proofs.AnswerLaws.{none-first, finished, done-makes}

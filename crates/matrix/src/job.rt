@@ -1,9 +1,9 @@
 // A job's record, its sizes and the lengths of its buffers.
 ghost use mathlib.Core.Path.{_≡_};
 ghost use mathlib.Core.Bool.{false, _||_};
-ghost use Prim.Native.Nat.{ℕ, _^_, _≤_};
+ghost use Prim.Native.Nat.{_≤_};
 ghost use Rattle.requests.specs.Sizes.{over, unfit};
-ghost use Rattle.matrix.specs.Job.{meant, tableSize, productSize, misfit};
+ghost use Rattle.matrix.specs.Job.{meant, misfit};
 use requests::Size;
 use requests::sizes::unfit;
 

@@ -1,8 +1,6 @@
 // Opens a job: its record, and zero in table and product.
 ghost use mathlib.Core.Path.{_≡_};
-ghost use mathlib.Core.Bool.{not};
-ghost use Prim.Native.Nat.{ℕ, _≤_};
-ghost use lib.Dec.{eqb};
+ghost use Prim.Native.Nat.{ℕ};
 ghost use lib.ListN.{length, getD};
 ghost use Rattle.requests.specs.Answers.{number, first};
 ghost use Rattle.matrix.specs.Opening.{fittingTests, openingTests, openingMeans};

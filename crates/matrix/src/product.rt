@@ -1,6 +1,6 @@
 // The whole product as one request: an opening, and then every step of the list.
 ghost use mathlib.Core.Path.{_≡_};
-ghost use Prim.Native.Nat.{ℕ, _^_, _≤_, _<_};
+ghost use Prim.Native.Nat.{_^_};
 ghost use lib.ListN.{length};
 ghost use Rattle.buffers.specs.Buffer.{words, cell, Legal, encode};
 ghost use Rattle.requests.specs.Answers.{number};

@@ -1,6 +1,6 @@
 // The size quote: an upper bound of the steps, from the sizes alone.
 ghost use mathlib.Core.Path.{_≡_};
-ghost use Prim.Native.Nat.{ℕ, _≤_, _<_, min};
+ghost use Prim.Native.Nat.{_≤_, _<_, min};
 ghost use Rattle.requests.specs.Answers.{number};
 ghost use Rattle.steps.specs.Count.{quote};
 ghost use Rattle.matrix.specs.Quote.{quoteMeans};

@@ -7,7 +7,7 @@ use Rattle.cells.proofs.AnyLaws.{or-left, or-right}
 use Rattle.requests.specs.declared.Size.{Size}
 use Rattle.buffers.specs.Buffer.{words, Legal}
 use Rattle.requests.specs.Answers.{first}
-use Rattle.requests.specs.Sizes.{over, unfit}
+use Rattle.requests.specs.Sizes.{unfit}
 use Rattle.requests.specs.Faults.{faults}
 use Rattle.requests.specs.Single.{singleTests}
 use Rattle.requests.proofs.SizeLaws.{over-rows, over-columns, unfit-long}

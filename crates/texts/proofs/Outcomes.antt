@@ -2,7 +2,6 @@
 use mathlib.Core.Path.{_≡_, refl, sym, ap, _∙_}
 use mathlib.Core.List.{List}
 use Prim.Native.Nat.{ℕ, zero, suc}
-use Rattle.requests.specs.Answers.{first}
 use Rattle.requests.proofs.AnswerLaws.{None, Gives, gives, none-first}
 use Rattle.texts.specs.Multiply.{multiplyTests, refusal, productText, answerText, multiplyText, multiplyMeans}
 use Rattle.texts.specs.MatrixText.{sizeIn, wordsIn, restOf}

@@ -1,12 +1,11 @@
 // The program multiply without its reading and writing: a whole text in, a whole text out.
 ghost use mathlib.Core.Path.{_≡_};
-ghost use Prim.Native.Nat.{ℕ, _≤_};
-ghost use lib.ListN.{length, take};
+ghost use Prim.Native.Nat.{_≤_};
+ghost use lib.ListN.{length};
 ghost use Rattle.buffers.specs.Buffer.{words, cell, encode};
 ghost use Rattle.requests.specs.Answers.{number, first};
 ghost use Rattle.steps.specs.Matrix.{schoolbook};
 ghost use Rattle.matrix.specs.Job.{meant, totalOf};
-ghost use Rattle.texts.specs.MatrixText.{sizeIn, wordsIn, restOf};
 ghost use Rattle.texts.specs.Multiply.{formTests, productTests, multiplyMeans};
 ghost use Rattle.texts.specs.Found.{Matrices};
 use super::read::matrix_in;

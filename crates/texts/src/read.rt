@@ -1,7 +1,7 @@
 // A matrix out of a text: its header line, then the lines of its rows.
 ghost use mathlib.Core.Path.{_≡_};
 ghost use mathlib.Core.Bool.{false};
-ghost use Prim.Native.Nat.{ℕ, _+_, _*_, _^_, _≤_, _<_};
+ghost use Prim.Native.Nat.{_+_, _*_, _≤_, _<_};
 ghost use lib.ListN.{length, take, drop};
 ghost use Rattle.buffers.specs.Buffer.{wide, words};
 ghost use Rattle.requests.specs.Answers.{number, first};

@@ -1,7 +1,7 @@
 // Text into a buffer: a refusal, or the frames of a matrix and a total. Where there is no room for all of it nothing is written.
 ghost use mathlib.Core.Path.{_≡_};
 ghost use mathlib.Core.Bool.{not};
-ghost use Prim.Native.Nat.{ℕ, _*_, _≤_};
+ghost use Prim.Native.Nat.{_*_, _≤_};
 ghost use lib.Dec.{ltb};
 ghost use lib.ListN.{length};
 ghost use Rattle.buffers.specs.Buffer.{words};

@@ -1,5 +1,5 @@
 -- The sizes of a job, within the limits. Assumes nothing.
-use Prim.Native.Nat.{ℕ, _≤_, _<_}
+use Prim.Native.Nat.{_≤_, _<_}
 use Rattle.walk.specs.declared.Shape.{Shape}
 
 pub record Within (shape : Shape) : Type 0 where

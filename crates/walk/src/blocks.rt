@@ -1,7 +1,6 @@
 // The steps of blocks, one after another.
 ghost use mathlib.Core.Path.{_≡_};
-ghost use mathlib.Core.List.{List};
-ghost use Prim.Native.Nat.{ℕ, _+_, _*_, _^_, _≤_, _<_, min};
+ghost use Prim.Native.Nat.{_+_, _*_, _^_, _≤_, _<_, min};
 ghost use lib.ListN.{length};
 ghost use Rattle.buffers.specs.Buffer.{cell, Legal};
 ghost use Rattle.steps.specs.StepList.{each, blocks, blockAt};

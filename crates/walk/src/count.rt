@@ -1,11 +1,9 @@
 // Counts the steps of a block.
 ghost use mathlib.Core.Path.{_≡_};
-ghost use Prim.Native.Nat.{ℕ, _+_, _-_, _^_, _≤_, _<_, min};
-ghost use lib.ListN.{length};
+ghost use Prim.Native.Nat.{_+_, _-_, _≤_, _<_, min};
 ghost use Rattle.buffers.specs.Buffer.{planes, cell, Legal};
-ghost use Rattle.rows.specs.Row.{Readable};
-ghost use Rattle.steps.specs.StepList.{P, N, blocks, blockWidth};
-ghost use Rattle.steps.specs.Count.{rowCount, blockCount};
+ghost use Rattle.steps.specs.StepList.{P, N};
+ghost use Rattle.steps.specs.Count.{blockCount};
 use buffers::planes::planes;
 use rows::block::Bits;
 use rows::block::block;

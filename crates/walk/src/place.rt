@@ -1,7 +1,6 @@
 // One walk over A: the exact total, and the last block that begins at or before a number of steps.
 ghost use mathlib.Core.Path.{_≡_};
-ghost use Prim.Native.Nat.{ℕ, _+_, _≤_, _<_};
-ghost use lib.ListN.{length};
+ghost use Prim.Native.Nat.{_+_, _≤_, _<_};
 ghost use Rattle.buffers.specs.Buffer.{cell, Legal};
 ghost use Rattle.steps.specs.StepList.{blocks, blockWidth};
 ghost use Rattle.walk.specs.Place.{StandsAt};

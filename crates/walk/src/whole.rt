@@ -1,7 +1,6 @@
 // Every step of the list: the walk of a whole product, which has nothing to skip and pays for no budget.
 ghost use mathlib.Core.Path.{_≡_};
-ghost use Prim.Native.Nat.{ℕ, _+_, _*_, _^_, _≤_, _<_};
-ghost use lib.ListN.{length};
+ghost use Prim.Native.Nat.{_+_, _*_, _^_, _≤_, _<_};
 ghost use Rattle.cells.specs.Digit.{Matrix};
 ghost use Rattle.buffers.specs.Buffer.{planes, cell, Legal};
 ghost use Rattle.steps.specs.Step.{plus, minus};

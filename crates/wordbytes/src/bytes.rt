@@ -1,6 +1,6 @@
 // Words as bytes, lowest byte first.
 ghost use mathlib.Core.Path.{_≡_};
-ghost use Prim.Native.Nat.{ℕ, _+_, _*_, _≤_, _<_};
+ghost use Prim.Native.Nat.{_+_, _*_, _≤_, _<_};
 ghost use lib.ListN.{length};
 ghost use Rattle.rows.specs.Row.{Written};
 ghost use Rattle.wordbytes.specs.Bytes.{byteOf, valueOf, wordsIn, bytesOf};

@@ -1,6 +1,6 @@
 use mathlib.Core.Path.{sym, ap, _∙_}
 use mathlib.Core.List.{List}
-use Prim.Native.Nat.{ℕ, _-_}
+use Prim.Native.Nat.{ℕ}
 use Rattle.requests.specs.Answers.{number, first}
 use Rattle.texts.specs.MatrixText.{matrixTests}
 use Rattle.texts.proofs.FormLaws.{form-first, form-second, form-more, form-done, rest-length, matrices-are}

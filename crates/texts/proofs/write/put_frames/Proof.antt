@@ -1,6 +1,6 @@
 use mathlib.Core.Path.{ap, _∙_}
 use mathlib.Core.List.{[]}
-use Prim.Native.Nat.{ℕ, _+_, _-_, _*_}
+use Prim.Native.Nat.{ℕ, _+_, _*_}
 use lib.ListN.{length-take}
 use Rattle.texts.specs.Multiply.{framesOf}
 use Rattle.texts.proofs.LaidLaws.{roomy, cramped}

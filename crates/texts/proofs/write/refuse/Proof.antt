@@ -1,5 +1,4 @@
 use mathlib.Core.Path.{sym, ap, _∙_}
-use Prim.Native.Nat.{_-_}
 use lib.ListN.{length, drop, set, length-set, length-drop}
 use lib.Seq.{length-take-le}
 use Rattle.texts.specs.Multiply.{refusal}
