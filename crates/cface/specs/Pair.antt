@@ -6,7 +6,7 @@ use lib.ListN.{length}
 use Rattle.requests.specs.declared.Size.{Size}
 use Rattle.requests.specs.Answers.{Tests}
 use Rattle.requests.specs.Sizes.{over}
-use Rattle.requests.specs.Faults.{faults}
+use Rattle.requests.specs.Faults.{pairFaults}
 use Rattle.requests.specs.Pair.{unequal}
 use Rattle.wordbytes.specs.Bytes.{wordsIn}
 use Rattle.cface.specs.Limit.{above, unfitBytes}
@@ -16,4 +16,4 @@ unfoldable pub pairSizes : Size → Size → ℕ → ℕ → ℕ → Tests
 pairSizes x y l m n = (over x || over y, 1) ∷ (above x || above y, 11) ∷ (unequal x y, 2) ∷ (unfitBytes x l || (unfitBytes y m || unfitBytes x n), 4) ∷ []
 
 unfoldable pub pairFaceTests : Size → Size → List ℕ → List ℕ → ℕ → Tests
-pairFaceTests x y a b n = pairSizes x y (length a) (length b) n ++ (faults x (wordsIn a) ++ faults y (wordsIn b))
+pairFaceTests x y a b n = pairSizes x y (length a) (length b) n ++ pairFaults x y (wordsIn a) (wordsIn b)

@@ -8,8 +8,9 @@ use Rattle.buffers.specs.Buffer.{encode}
 use Rattle.requests.specs.declared.Size.{Size}
 use Rattle.requests.specs.Answers.{Tests, answered}
 use Rattle.requests.specs.Sizes.{over}
+use Rattle.requests.specs.Faults.{pairFaults}
 use Rattle.matrix.specs.declared.job.Job.{Job}
-use Rattle.matrix.specs.Job.{meant, unmatched, misfit, countless, pairFaults}
+use Rattle.matrix.specs.Job.{meant, unmatched, misfit, countless}
 
 -- the tests of sizes, width and lengths; t and p are how many words table and product have
 abbrev pub sizeTests : Size → Size → ℕ → List ℕ → List ℕ → ℕ → ℕ → Tests

@@ -8,12 +8,13 @@ use Rattle.buffers.specs.Buffer.{cell, encode}
 use Rattle.requests.specs.declared.Size.{Size}
 use Rattle.requests.specs.Answers.{Tests, answered}
 use Rattle.requests.specs.Sizes.{over}
+use Rattle.requests.specs.Faults.{pairFaults}
 use Rattle.steps.specs.Step.{Step}
 use Rattle.steps.specs.StepList.{steps}
 use Rattle.steps.specs.Turn.{made, Place, turn}
 use Rattle.walk.specs.Ran.{found}
 use Rattle.matrix.specs.declared.job.Job.{Job}
-use Rattle.matrix.specs.Job.{unwide, tableSize, productSize, misfit, totalOf, countless, pairFaults}
+use Rattle.matrix.specs.Job.{unwide, tableSize, productSize, misfit, totalOf, countless}
 
 abbrev pub sizeA : Job → Size
 sizeA job = record { rows = job .m; columns = job .l }

@@ -1,13 +1,13 @@
 -- The tests of a request that makes a matrix of two of the same size. Assumes nothing.
 use mathlib.Core.Bool.{Bool, not, _||_}
-use mathlib.Core.List.{List, _∷_, _++_}
+use mathlib.Core.List.{List, _∷_}
 use Prim.Native.Nat.{ℕ}
 use lib.Dec.{eqb}
 use lib.ListN.{length}
 use Rattle.requests.specs.declared.Size.{Size}
 use Rattle.requests.specs.Answers.{Tests}
 use Rattle.requests.specs.Sizes.{over, unfit}
-use Rattle.requests.specs.Faults.{faults}
+use Rattle.requests.specs.Faults.{pairFaults}
 
 -- the row counts or the column counts differ
 unfoldable pub unequal : Size → Size → Bool
@@ -19,4 +19,4 @@ unfits x y l m n = unfit x l || (unfit y m || unfit x n)
 
 -- n is how many words there are for the result
 unfoldable pub pairTests : Size → Size → List ℕ → List ℕ → ℕ → Tests
-pairTests x y a b n = (over x || over y, 1) ∷ (unequal x y, 2) ∷ (unfits x y (length a) (length b) n, 4) ∷ (faults x a ++ faults y b)
+pairTests x y a b n = (over x || over y, 1) ∷ (unequal x y, 2) ∷ (unfits x y (length a) (length b) n, 4) ∷ pairFaults x y a b

@@ -7,8 +7,9 @@ use lib.ListN.{length, drop}
 use Rattle.buffers.specs.Buffer.{cell, encode}
 use Rattle.requests.specs.declared.Size.{Size}
 use Rattle.requests.specs.Answers.{Tests, first}
+use Rattle.requests.specs.Faults.{pairFaults}
 use Rattle.steps.specs.Matrix.{schoolbook}
-use Rattle.matrix.specs.Job.{meant, productSize, unmatched, totalOf, pairFaults}
+use Rattle.matrix.specs.Job.{meant, productSize, unmatched, totalOf}
 use Rattle.frames.specs.Line.{hexOf}
 use Rattle.frames.specs.Header.{headerOf}
 use Rattle.texts.specs.MatrixText.{linesOf, sizeIn, wordsIn, restOf, matrixTests}
