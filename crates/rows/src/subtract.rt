@@ -45,16 +45,36 @@ fn subtract_rest(t: &mut [u64], b: &[u64], q: usize, n: usize, x: usize, y: usiz
     subtract_one(t, b, q, x + 2, y + 2, z + 2);
 }
 
-// The row at x of t becomes what is made of the row at y of t and the row at z of b.
-pub fn subtract_row(t: &mut [u64], b: &[u64], q: usize, x: usize, y: usize, z: usize)
+// A whole row of at most four pairs. Where their number is known, so is the distance of the planes, and the code is straight. Three pairs are not
+// tested for by equality: of four such tests the back end makes a jump through a table, which costs more.
+fn subtract_short(t: &mut [u64], b: &[u64], q: usize, x: usize, y: usize, z: usize)
+    requires { ⌜ (q ≤ 4) × InPlace q q x y z (now t) (now b) ⌝ }
+    ensures { λ _. ⌜ Made (of2 sub3 q (now (t .entry)) y (now (b .entry)) z) x q q (now (t .entry)) (now (t .exit)) ⌝ }
+{
+    if q == 4 {
+        subtract_two(t, b, q, x, y, z);
+        subtract_two(t, b, q, x + 2, y + 2, z + 2);
+        return;
+    }
+    if q == 2 {
+        subtract_two(t, b, q, x, y, z);
+        return;
+    }
+    if q > 2 {
+        subtract_two(t, b, q, x, y, z);
+        subtract_one(t, b, q, x + 2, y + 2, z + 2);
+        return;
+    }
+    if q == 1 {
+        subtract_one(t, b, q, x, y, z);
+    }
+}
+
+// A whole row, four pairs at a time.
+fn subtract_long(t: &mut [u64], b: &[u64], q: usize, x: usize, y: usize, z: usize)
     requires { ⌜ InPlace q q x y z (now t) (now b) ⌝ }
     ensures { λ _. ⌜ Made (of2 sub3 q (now (t .entry)) y (now (b .entry)) z) x q q (now (t .entry)) (now (t .exit)) ⌝ }
 {
-    // A row of one pair pays for nothing that the loop prepares.
-    if q == 1 {
-        subtract_one(t, b, q, x, y, z);
-        return;
-    }
     let end = q - q % 4;
     let mut j = 0;
     while j < end {
@@ -69,11 +89,29 @@ pub fn subtract_row(t: &mut [u64], b: &[u64], q: usize, x: usize, y: usize, z: u
     subtract_rest(t, b, q, q - j, x + j, y + j, z + j);
 }
 
+// The row at x of t becomes what is made of the row at y of t and the row at z of b.
+pub fn subtract_row(t: &mut [u64], b: &[u64], q: usize, x: usize, y: usize, z: usize)
+    requires { ⌜ InPlace q q x y z (now t) (now b) ⌝ }
+    ensures { λ _. ⌜ Made (of2 sub3 q (now (t .entry)) y (now (b .entry)) z) x q q (now (t .entry)) (now (t .exit)) ⌝ }
+{
+    // A short row pays for nothing that the loop prepares.
+    if q <= 4 {
+        subtract_short(t, b, q, x, y, z);
+        return;
+    }
+    subtract_long(t, b, q, x, y, z);
+}
+
 // The row at x of d, lent as a part that starts mid-slice, and the row at y of s.
 pub fn subtract(d: &mut [u64], s: &[u64], q: usize, x: usize, y: usize)
     requires { ⌜ Readable q q x (now d) × Readable q q y (now s) ⌝ }
     ensures { λ _. ⌜ Made (of2 sub3 q (now (d .entry)) x (now (s .entry)) y) x q q (now (d .entry)) (now (d .exit)) ⌝ }
 {
     let e = x + 2 * q;
+    // A row of one pair pays for nothing that longer rows need.
+    if q == 1 {
+        subtract_one(&mut d[x..e], s, q, 0, 0, y);
+        return;
+    }
     subtract_row(&mut d[x..e], s, q, 0, 0, y);
 }

@@ -4,6 +4,7 @@ ghost use Prim.Native.Nat.{_+_, _≤_};
 ghost use Rattle.cells.specs.Digit.{add3};
 ghost use Rattle.rows.specs.Row.{of2, Made, Readable};
 ghost use lib.ListN.{length};
+use super::add::add_one;
 use super::add::add_row;
 
 pub fn table_step(t: &mut [u64], b: &[u64], q: usize, x: usize, y: usize, z: usize)
@@ -12,5 +13,10 @@ pub fn table_step(t: &mut [u64], b: &[u64], q: usize, x: usize, y: usize, z: usi
 {
     let e = x + 2 * q;
     let at = x - y;
+    // A row of one pair pays for nothing that longer rows need.
+    if q == 1 {
+        add_one(&mut t[y..e], b, q, at, 0, z);
+        return;
+    }
     add_row(&mut t[y..e], b, q, at, 0, z);
 }
