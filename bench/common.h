@@ -51,12 +51,12 @@ static inline uint64_t nanoseconds(void)
     return (uint64_t)now.tv_sec * 1000000000 + (uint64_t)now.tv_nsec;
 }
 
-// Prints what a call takes, in picoseconds: the shortest of nine runs, each of as many calls as take five milliseconds or more.
+// Prints what a call takes, in picoseconds: the shortest of fifteen runs, each of as many calls as take five milliseconds or more.
 static inline void print_time(void (*make)(void *with, size_t times), void *with)
 {
     uint64_t least = UINT64_MAX;
     size_t times = 1;
-    for (int runs = 0; runs < 9;) {
+    for (int runs = 0; runs < 15;) {
         uint64_t from = nanoseconds();
         make(with, times);
         uint64_t took = nanoseconds() - from;
