@@ -21,6 +21,7 @@ use Rattle.cells.proofs.PairLaws.{holds-self, legal-none, digit-none}
 use Rattle.cells.specs.Digit.{Matrix, unitOf, signOf}
 use Rattle.cells.proofs.EncodeLaws.{unit-lt, sign-lt, unit-bit, sign-bit}
 use Rattle.buffers.specs.Buffer.{planes, wide, words, bitAt, unit, sign, cell, Legal, Words, tab, joined, plane, encode}
+use Rattle.buffers.specs.Shows.{Shows}
 use Rattle.buffers.specs.Fault.{stray, padded}
 use Rattle.buffers.proofs.SizeLaws.{planes-room, wide-is, bitAt-word}
 
@@ -289,3 +290,13 @@ zeros-encode r c ws long z =
     shown r c (λ i j. 0) ws (λ i p t. 0) long
     (λ i p h m. rw (z (i * wide c + p), z (i * wide c + planes c + p)) (record { holds = record { legal = legal-none; digits = digit-none }; unit-fits = omega arith; sign-fits = omega arith }))
     (λ i p t h m k l. refl) (λ i p t h m k l. refl)
+
+-- an encoding of digits shows them
+pub encode-shows : (r c : ℕ) (M : Matrix) → ((i j : ℕ) → i < r → j < c → M i j < 3) → Shows r c M (encode r c M)
+encode-shows r c M d =
+    let holds : (i j : ℕ) → i < r → j < c → cell c (encode r c M) i j ≡ M i j = λ i j h l. cell-encode r c M i j h l (d i j h l) in
+    record {
+      legal = encode-legal r c M;
+      digits = holds;
+      only = λ vs L fits same. legal-same r c vs (encode r c M) L fits (encode-legal r c M) (encode-words r c M) (λ i j h l. same i j h l ∙ sym (holds i j h l));
+    }

@@ -1,6 +1,6 @@
 -- Demand 1: every request ends with an answer, and its statement says which. For each request: a number is given exactly when its test is
 -- the first in the order that holds, and then every buffer holds what it held; done is given exactly when no test holds. Assumes nothing.
-use mathlib.Core.Path.{_≡_, sym, _∙_}
+use mathlib.Core.Path.{_≡_}
 use mathlib.Core.Bool.{Bool, false}
 use mathlib.Core.List.{List, [], _∷_}
 use Prim.Native.Nat.{ℕ, _^_}
@@ -32,16 +32,12 @@ use Rattle.matrix.specs.Opening.{openingTests, noJob, openedOf, openingM
 use Rattle.matrix.specs.Turn.{foundTests, turnTests, turnedOf, turnMeans}
 use Rattle.matrix.specs.Product.{endOf, productMeans}
 use Rattle.steps.specs.Count.{quote}
-use Rattle.requests.proofs.AnswerLaws.{None, Gives, given, gives, first-none, none-first, Exact, exact}
+use Rattle.requests.specs.Exact.{Numbered, Exact}
+use Rattle.requests.proofs.AnswerLaws.{numbered, exact}
 
-pub check-exact : (s : Size) (a : List ℕ) (r : Answer) → number r ≡ checkMeans s a
-    → ((k : ℕ) → (k ≡ 0 → ⊥) → (number r ≡ k → Gives k (checkTests s a)) × (Gives k (checkTests s a) → number r ≡ k)) × (number r ≡ 0 → None (checkTests s a)) × (None (checkTests s a) → number r ≡ 0)
+pub check-exact : (s : Size) (a : List ℕ) (r : Answer) → number r ≡ checkMeans s a → Numbered (checkTests s a) (number r)
 unfolding checkMeans checkTests faults
-check-exact s a r says = (
-  λ k ne. (λ e. given (checkTests s a) k ne (sym says ∙ e), λ g. says ∙ gives (checkTests s a) k g),
-  λ e. first-none (checkTests s a) tt (sym says ∙ e),
-  λ h. says ∙ none-first (checkTests s a) h,
-)
+check-exact s a r says = numbered (checkTests s a) (number r) tt says
 
 pub sum-exact : (x y : Size) (a b out : List ℕ) (r : Answer) (o : List ℕ) → (number r, o) ≡ sumMeans x y a b out → Exact (pairTests x y a b (length out)) out (sumOf (x .rows) (x .columns) a b) (number r) o
 unfolding sumMeans pairTests faults

@@ -32,9 +32,11 @@ use Rattle.steps.proofs.Same.{SameState}
 use Rattle.steps.proofs.Turns.{made-done, after-all, turn-same, turns-from-start}
 use Rattle.walk.specs.Ran.{found}
 use Rattle.matrix.specs.declared.job.Job.{Job}
-use Rattle.matrix.specs.Job.{meant, tableSize, productSize, misfit, totalOf}
+use Rattle.matrix.specs.Job.{meant, tableSize, productSize, totalOf}
+use Rattle.matrix.specs.Misfit.{misfit}
 use Rattle.matrix.specs.Opening.{openingTests, newJob, openedOf, openingMeans}
 use Rattle.matrix.specs.Turn.{sizeA, sizeB, foundTests, turnTests, turnedOf, turnMeans}
+use Rattle.matrix.specs.Stands.{stateAt, jobAt, Stands}
 use Rattle.matrix.specs.Product.{endOf, productMeans}
 use Rattle.matrix.proofs.JobLaws.{meant-pos, meant-le, Fitting, opening-ready, turn-none}
 
@@ -79,10 +81,10 @@ module _ (x y : Size) (w : ℕ) (a b : List ℕ) (hm : x .rows ≤ 1024) (hl : x
 
   -- the state after the first d steps, and the record and buffers of a job that stands there
   abbrev pub at : ℕ → State
-  at d = after B (steps m l k A) opening d
+  at d = stateAt x y k a b d
 
-  abbrev pub jobAt : ℕ → Job
-  jobAt d = record { m = m; l = l; n = n; width = k; done = d }
+  abbrev pub recordAt : ℕ → Job
+  recordAt d = jobAt x y k d
 
   abbrev pub tableAt : ℕ → List ℕ
   tableAt d = encode (2 ^ k) n (at d .table)
@@ -93,27 +95,27 @@ module _ (x y : Size) (w : ℕ) (a b : List ℕ) (hm : x .rows ≤ 1024) (hl : x
   k8 : k ≤ 8
   k8 = meant-le w hw
 
-  no-fault : (d : ℕ) → first (foundTests (jobAt d) a b (tableAt d) (productAt d)) ≡ 0
+  no-fault : (d : ℕ) → first (foundTests (recordAt d) a b (tableAt d) (productAt d)) ≡ 0
   unfolding foundTests faults misfit
   no-fault d =
       let ta = tests-legal m l a LA in
       let tb = tests-legal l n b LB in
       let tt′ = tests-legal (2 ^ k) n (tableAt d) (encode-legal (2 ^ k) n (at d .table)) in
       let tp = tests-legal m n (productAt d) (encode-legal m n (at d .product)) in
-      none-first (foundTests (jobAt d) a b (tableAt d) (productAt d)) (
-        rw (not-over (sizeA (jobAt d)) hm hl) (not-over (sizeB (jobAt d)) hl hn),
+      none-first (foundTests (recordAt d) a b (tableAt d) (productAt d)) (
+        rw (not-over (sizeA (recordAt d)) hm hl) (not-over (sizeB (recordAt d)) hl hn),
         (
           rw (ne-eqb k 0 (λ e. omega (arith, meant-pos w))) (le-ltb 8 k k8),
           (
-            rw (not-unfit (sizeA (jobAt d)) (length a) (LA .long), not-unfit (sizeB (jobAt d)) (length b) (LB .long), not-unfit (tableSize (sizeB (jobAt d)) k) (length (tableAt d)) (encode-legal (2 ^ k) n (at d .table) .long))
-                (not-unfit (productSize (sizeA (jobAt d)) (sizeB (jobAt d))) (length (productAt d)) (encode-legal m n (at d .product) .long)),
+            rw (not-unfit (sizeA (recordAt d)) (length a) (LA .long), not-unfit (sizeB (recordAt d)) (length b) (LB .long), not-unfit (tableSize (sizeB (recordAt d)) k) (length (tableAt d)) (encode-legal (2 ^ k) n (at d .table) .long))
+                (not-unfit (productSize (sizeA (recordAt d)) (sizeB (recordAt d))) (length (productAt d)) (encode-legal m n (at d .product) .long)),
             (ta .0, (ta .1, (tb .0, (tb .1, (tt′ .0, (tt′ .1, (tp .0, (tp .1, tt)))))))),
           ),
         ),
       )
 
-  no-test : (d : ℕ) → d ≤ long → first (turnTests (jobAt d) a b (tableAt d) (productAt d)) ≡ 0
-  no-test d h = turn-none (jobAt d) a b (tableAt d) (productAt d) (no-fault d) (omega (arith, total-small m l k A hm hl (meant-pos w) k8)) h
+  no-test : (d : ℕ) → d ≤ long → first (turnTests (recordAt d) a b (tableAt d) (productAt d)) ≡ 0
+  no-test d h = turn-none (recordAt d) a b (tableAt d) (productAt d) (no-fault d) (omega (arith, total-small m l k A hm hl (meant-pos w) k8)) h
 
   -- what is found at d is the state at d, within the sizes
   found-at : (d : ℕ) → SameState k m n (found n (tableAt d) (productAt d)) (at d)
@@ -126,36 +128,34 @@ module _ (x y : Size) (w : ℕ) (a b : List ℕ) (hm : x .rows ≤ 1024) (hl : x
       }
 
   -- where a turn leaves a job that stands at d
-  abbrev next : ℕ → ℕ → ℕ
+  abbrev pub next : ℕ → ℕ → ℕ
   next d budget = min (d + budget) long
 
   -- it is accepted, and leaves the job standing there
   pub turn-at : (d budget : ℕ) → d ≤ long
-      → turnMeans (jobAt d) a b (tableAt d) (productAt d) budget
-      ≡ (0, (jobAt (next d budget), (makes d budget, (eqb (next d budget) long, (tableAt (next d budget), productAt (next d budget))))))
+      → turnMeans (recordAt d) a b (tableAt d) (productAt d) budget
+      ≡ (0, (recordAt (next d budget), (makes d budget, (eqb (next d budget) long, (tableAt (next d budget), productAt (next d budget))))))
   unfolding turnMeans turnedOf turn total
   turn-at d budget h =
       let S = turn-same k m l n A B (meant-pos w) opening (found n (tableAt d) (productAt d)) d budget h (found-at d) in
       let e = made-done (steps m l k A) d budget h in
       let t = encode-within (2 ^ k) n _ _ (S .table) in
       let p = encode-within m n _ _ (S .product) in
-      sym (finished (turnTests (jobAt d) a b (tableAt d) (productAt d)) _ _ _ (no-test d h) (sym (λ i. (jobAt (e i), (makes d budget, (eqb (e i) long, (t i, p i)))))))
+      sym (finished (turnTests (recordAt d) a b (tableAt d) (productAt d)) _ _ _ (no-test d h) (sym (λ i. (recordAt (e i), (makes d budget, (eqb (e i) long, (t i, p i)))))))
 
-  -- a job that stands at d
-  pub record Stands (d : ℕ) (job : Job) (t p : List ℕ) : Type 0 where
-    pub record-is : job ≡ jobAt d
-    pub table-is : t ≡ tableAt d
-    pub product-is : p ≡ productAt d
+  -- a job of these matrices that stands at d
+  abbrev pub At : ℕ → Job → List ℕ → List ℕ → Type 0
+  At = Stands x y k a b
 
-  meaning : (d budget : ℕ) (job : Job) (t p : List ℕ) → Stands d job t p → turnMeans job a b t p budget ≡ turnMeans (jobAt d) a b (tableAt d) (productAt d) budget
+  meaning : (d budget : ℕ) (job : Job) (t p : List ℕ) → At d job t p → turnMeans job a b t p budget ≡ turnMeans (recordAt d) a b (tableAt d) (productAt d) budget
   meaning d budget job t p S = rw (S .record-is, S .table-is, S .product-is)
 
   -- never refused, where nothing else writes
-  pub accepted : (d budget : ℕ) (job : Job) (t p : List ℕ) → d ≤ long → Stands d job t p → turnMeans job a b t p budget .0 ≡ 0
+  pub accepted : (d budget : ℕ) (job : Job) (t p : List ℕ) → d ≤ long → At d job t p → turnMeans job a b t p budget .0 ≡ 0
   accepted d budget job t p h S = ap (λ (o : ℕ × (Job × (ℕ × (Bool × (List ℕ × List ℕ))))). o .0) (meaning d budget job t p S ∙ turn-at d budget h)
 
   -- a turn after the end makes no step
-  pub at-end : (budget : ℕ) → turnMeans (jobAt long) a b (tableAt long) (productAt long) budget ≡ (0, (jobAt long, (0, (true, (tableAt long, productAt long)))))
+  pub at-end : (budget : ℕ) → turnMeans (recordAt long) a b (tableAt long) (productAt long) budget ≡ (0, (recordAt long, (0, (true, (tableAt long, productAt long)))))
   unfolding made total
   at-end budget =
       let z : makes long budget ≡ 0 = omega arith in
@@ -166,28 +166,36 @@ module _ (x y : Size) (w : ℕ) (a b : List ℕ) (hm : x .rows ≤ 1024) (hl : x
   Outcome = ℕ × (Job × (ℕ × (Bool × (List ℕ × List ℕ))))
 
   abbrev Stand : ℕ → Held → Type 0
-  Stand d s = Stands d (s .0) (s .1 .0) (s .1 .1)
+  Stand d s = At d (s .0) (s .1 .0) (s .1 .1)
+
+  -- a turn is accepted, and leaves the job standing further on
+  pub turn-on : (d budget : ℕ) (job : Job) (t p : List ℕ) (r : Answer) (job₁ : Job) (n : ℕ) (ended : Bool) (t₁ p₁ : List ℕ) → d ≤ long → At d job t p
+      → (number r, (job₁, (n, (ended, (t₁, p₁))))) ≡ turnMeans job a b t p budget → (number r ≡ 0) × At (next d budget) job₁ t₁ p₁
+  unfolding Outcome
+  turn-on d budget job t p r job₁ n ended t₁ p₁ h S says =
+      let e = says ∙ meaning d budget job t p S ∙ turn-at d budget h in (
+        ap (λ (o : Outcome). o .0) e,
+        record {
+          record-is = ap (λ (o : Outcome). o .1 .0) e;
+          table-is = ap (λ (o : Outcome). o .1 .1 .1 .1 .0) e;
+          product-is = ap (λ (o : Outcome). o .1 .1 .1 .1 .1) e;
+        },
+      )
 
   one-turn : (d budget : ℕ) (s s₁ : Held) → d ≤ long → Stand d s → Accepted a b budget s s₁ → Stand (next d budget) s₁
-  unfolding Outcome
   one-turn d budget s s₁ h S turned =
-      let e = turned .says ∙ meaning d budget (s .0) (s .1 .0) (s .1 .1) S ∙ turn-at d budget h in
-      record {
-        record-is = ap (λ (o : Outcome). o .1 .0) e;
-        table-is = ap (λ (o : Outcome). o .1 .1 .1 .1 .0) e;
-        product-is = ap (λ (o : Outcome). o .1 .1 .1 .1 .1) e;
-      }
+      turn-on d budget (s .0) (s .1 .0) (s .1 .1) (turned .answer) (s₁ .0) (turned .made) (turned .ended) (s₁ .1 .0) (s₁ .1 .1) h S (turned .says) .1
 
   pub turns-at : (budgets : List ℕ) (s s₁ : Held) → Stand 0 s → Given (Accepted a b) s budgets s₁ → Stand (min (allBudgets budgets) long) s₁
   turns-at = turns-from-start (Accepted a b) Stand long one-turn
 
   -- the start
-  start : Stands 0 (newJob x y w) (encode (2 ^ k) n (λ i j. 0)) (encode m n (λ i j. 0))
+  start : At 0 (newJob x y w) (encode (2 ^ k) n (λ i j. 0)) (encode m n (λ i j. 0))
   unfolding after run opening
   start = record { record-is = refl; table-is = refl; product-is = refl }
 
   -- these matrices are opened at this width, with any table and product of the right length
-  pub opens : (t p : List ℕ) → l ≡ y .rows → length t ≡ words (2 ^ k) n → length p ≡ words m n → openingMeans x y w a b t p ≡ (0, (jobAt 0, (tableAt 0, productAt 0)))
+  pub opens : (t p : List ℕ) → l ≡ y .rows → length t ≡ words (2 ^ k) n → length p ≡ words m n → openingMeans x y w a b t p ≡ (0, (recordAt 0, (tableAt 0, productAt 0)))
   unfolding openingMeans openingTests misfit faults after run opening
   opens t p same lt lp =
       let ta = tests-legal m l a LA in
@@ -230,11 +238,11 @@ module _ (x y : Size) (w : ℕ) (a b t p : List ℕ) (r : Answer) (job₀ : Job)
   pub facts : Fitting x y w a b (length t) (length p)
   facts = opening-ready x y w a b (length t) (length p) (as-new .0)
 
-  -- the sizes, the width and the matrices that an accepted opening is of
+  -- where a job of these sizes, this width and these matrices stands
   abbrev Standing : ℕ → Job → List ℕ → List ℕ → Type 0
-  Standing = Stands x y w a b (facts .m) (facts .l) (facts .n) (facts .width) (facts .left) (facts .right)
+  Standing = Stands x y (meant w) a b
 
-  started : Standing 0 job₀ t₀ p₀
+  pub started : Standing 0 job₀ t₀ p₀
   started =
       let S = start x y w a b (facts .m) (facts .l) (facts .n) (facts .width) (facts .left) (facts .right) in
       record {
@@ -272,10 +280,10 @@ module _ (x y : Size) (w : ℕ) (a b t p : List ℕ) (r : Answer) (job₀ : Job)
 
 -- ---- the whole product as one request
 
-pub product-right : (x y : Size) (w : ℕ) (a b t p : List ℕ) (r : Answer) (t₁ p₁ : List ℕ) → (number r, (t₁, p₁)) ≡ productMeans x y w a b t p → number r ≡ 0
+pub product-end : (x y : Size) (w : ℕ) (a b t p : List ℕ) (r : Answer) (t₁ p₁ : List ℕ) → (number r, (t₁, p₁)) ≡ productMeans x y w a b t p → number r ≡ 0
     → p₁ ≡ encode (x .rows) (y .columns) (schoolbook (x .columns) (cell (x .columns) a) (cell (y .columns) b))
 unfolding productMeans endOf
-product-right x y w a b t p r t₁ p₁ says ok =
+product-end x y w a b t p r t₁ p₁ says ok =
     let e = done-makes (openingTests x y w a b (length t) (length p)) _ _ (t₁, p₁) (rw ok at says) in
     ap (λ (o : List ℕ × List ℕ). o .1) (e .1)
     ∙ encode-within (x .rows) (y .columns) _ _ (λ i j h q. steps-right (x .rows) (x .columns) (cell (x .columns) a) (cell (y .columns) b) (λ i j _ _. cell-lt (x .columns) a i j) (meant w) (meant-pos w) i h j)
@@ -284,7 +292,32 @@ product-right x y w a b t p r t₁ p₁ says ok =
 pub widths-agree : (x y : Size) (w w′ : ℕ) (a b t p t′ p′ : List ℕ) (r r′ : Answer) (t₁ p₁ t₂ p₂ : List ℕ)
     → (number r, (t₁, p₁)) ≡ productMeans x y w a b t p → number r ≡ 0 → (number r′, (t₂, p₂)) ≡ productMeans x y w′ a b t′ p′ → number r′ ≡ 0 → p₁ ≡ p₂
 widths-agree x y w w′ a b t p t′ p′ r r′ t₁ p₁ t₂ p₂ says ok says′ ok′ =
-    product-right x y w a b t p r t₁ p₁ says ok ∙ sym (product-right x y w′ a b t′ p′ r′ t₂ p₂ says′ ok′)
+    product-end x y w a b t p r t₁ p₁ says ok ∙ sym (product-end x y w′ a b t′ p′ r′ t₂ p₂ says′ ok′)
+
+-- ---- two jobs in turns
+
+-- p is the product of a job that was opened at some width and given accepted turns, until its budgets reached the list's length
+pub record Ended (x y : Size) (a b p : List ℕ) : Type 0 where
+  pub width : ℕ
+  pub table : List ℕ
+  pub product : List ℕ
+  pub answer : Answer
+  pub held : Held
+  pub opened : (number answer, held) ≡ openingMeans x y width a b table product
+  pub done : number answer ≡ 0
+  pub budgets : List ℕ
+  pub last : Job
+  pub last-table : List ℕ
+  pub given : Given (Accepted a b) held budgets (last, (last-table, p))
+  pub reached : totalOf x (meant width) a ≤ allBudgets budgets
+
+ended-right : (x y : Size) (a b p : List ℕ) → Ended x y a b p → p ≡ encode (x .rows) (y .columns) (schoolbook (x .columns) (cell (x .columns) a) (cell (y .columns) b))
+ended-right x y a b p E =
+    demand-3-end x y (E .width) a b (E .table) (E .product) (E .answer) (E .held .0) (E .held .1 .0) (E .held .1 .1) (E .opened) (E .done) (E .budgets) (E .last) (E .last-table) p (E .given) (E .reached)
+
+-- their products are equal, whatever the widths and the budgets
+pub jobs-agree : (x y : Size) (a b p p′ : List ℕ) → Ended x y a b p → Ended x y a b p′ → p ≡ p′
+jobs-agree x y a b p p′ E E′ = ended-right x y a b p E ∙ sym (ended-right x y a b p′ E′)
 
 -- ---- no columns
 

@@ -27,7 +27,8 @@ use Rattle.steps.specs.Count.{quote, total}
 use Rattle.steps.specs.Turn.{due, made, turn}
 use Rattle.walk.specs.Ran.{found}
 use Rattle.matrix.specs.declared.job.Job.{Job}
-use Rattle.matrix.specs.Job.{meant, misfit}
+use Rattle.matrix.specs.Job.{meant}
+use Rattle.matrix.specs.Misfit.{misfit}
 use Rattle.matrix.specs.Quote.{quoteTests, quoteMeans}
 use Rattle.matrix.specs.Total.{listTests, totalTests, totalMeans}
 use Rattle.matrix.specs.Opening.{fittingTests, openingTests, openingMeans}

@@ -19,7 +19,8 @@ use Rattle.requests.specs.Answers.{first}
 use Rattle.requests.specs.Sizes.{over, unfit}
 use Rattle.requests.specs.Faults.{faults}
 use Rattle.requests.proofs.SizeLaws.{over-rows, over-columns, unfit-long}
-use Rattle.requests.proofs.AnswerLaws.{positive, None, first-none, append-given, append-none, here, later}
+use Rattle.requests.specs.Exact.{None}
+use Rattle.requests.proofs.AnswerLaws.{positive, first-none, append-given, append-none, here, later}
 use Rattle.rows.specs.Row.{Written}
 use Rattle.cells.specs.Counts.{sum}
 use Rattle.steps.specs.Step.{Step, run, opening}
@@ -36,7 +37,8 @@ use Rattle.walk.specs.Ran.{found, Ran}
 use Rattle.walk.proofs.CountLaws.{pow-small}
 use Rattle.walk.proofs.PieceLaws.{from-place}
 use Rattle.matrix.specs.declared.job.Job.{Job}
-use Rattle.matrix.specs.Job.{meant, tableSize, productSize, misfit, totalOf, countless}
+use Rattle.matrix.specs.Job.{meant, tableSize, productSize, totalOf, countless}
+use Rattle.matrix.specs.Misfit.{misfit}
 use Rattle.matrix.specs.Total.{listTests}
 use Rattle.matrix.specs.Opening.{fittingTests, openingTests}
 use Rattle.matrix.specs.Turn.{sizeA, sizeB, foundTests, lateTests, turnTests, stepsOf, madeOf, onJob, turnedOf}
@@ -287,8 +289,8 @@ pub turn-done : (job : Job) (a b t p t′ p′ : List ℕ) (budget n : ℕ) (at 
     → _≡_ {A = Job × (ℕ × (Bool × (List ℕ × List ℕ)))} (onJob job (job .done + n), (n, (eqb (job .done + n) (at .total), (t′, p′)))) (turnedOf job a b t p budget)
 unfolding turnedOf turn made total
 turn-done job a b t p t′ p′ budget n at S en R =
-    let em : n ≡ madeOf job a budget = en ∙ ap (λ (c : ℕ). min budget (c - job .done)) (S .0) in
-    let seam = from-place (job .m) (job .l) (job .width) (cell (job .l) a) (at .block) (at .before) (job .done) n (S .3) (S .1) (S .2) in
+    let em : n ≡ madeOf job a budget = en ∙ ap (λ (c : ℕ). min budget (c - job .done)) (S .total-is) in
+    let seam = from-place (job .m) (job .l) (job .width) (cell (job .l) a) (at .block) (at .before) (job .done) n (S .within) (S .before-is) (S .begun) in
     let R′ =
     subst (λ (ps : List Step). Ran (job .width) (job .m) (job .n) (cell (job .n) b) ps t p t′ p′) (sym seam ∙ ap (λ (c : ℕ). due (job .done) c (stepsOf job a)) em) R in
-    λ i. (onJob job (job .done + em i), (em i, (eqb (job .done + em i) (S .0 i), (R′ .table i, R′ .product i))))
+    λ i. (onJob job (job .done + em i), (em i, (eqb (job .done + em i) (S .total-is i), (R′ .table i, R′ .product i))))

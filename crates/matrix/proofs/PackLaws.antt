@@ -9,15 +9,16 @@ use native.Mathlib.Decide.{decLt}
 use native.Mathlib.Omega.{arith}
 use lib.Dec.{ltb, eqb}
 use lib.ListN.{length, getD, List·getD-eq-default}
-use borrow.Author.Tests.{ltb-false, lt-ltb, le-ltb, eqb-true, not-false}
+use borrow.Author.Tests.{ltb-false, lt-ltb, le-ltb, eqb-true, eq-eqb, not-false}
 use Rattle.cells.specs.Any.{any}
-use Rattle.cells.proofs.AnyLaws.{any-at, or-left, or-right}
+use Rattle.cells.proofs.AnyLaws.{any-none, any-at, or-left, or-right}
 use Rattle.buffers.specs.Buffer.{planes, words, encode}
 use Rattle.requests.specs.declared.Size.{Size}
 use Rattle.requests.specs.Answers.{first}
 use Rattle.requests.specs.Sizes.{unfit}
-use Rattle.requests.proofs.SizeLaws.{over-rows, over-columns, unfit-long}
-use Rattle.requests.proofs.AnswerLaws.{None, first-none}
+use Rattle.requests.proofs.SizeLaws.{over-rows, over-columns, not-over, unfit-long, not-unfit}
+use Rattle.requests.specs.Exact.{None}
+use Rattle.requests.proofs.AnswerLaws.{first-none}
 use Rattle.rows.proofs.MatrixLaws.{RowsMade, rows-all}
 use Rattle.matrix.specs.Gathered.{upTo}
 use Rattle.matrix.specs.Unpacked.{byteAt, unlike}
@@ -34,6 +35,10 @@ cells-in r c i h = rw (← suc-mul i c) (mul-le-mul-right c h)
 pub unlike-long : (s : Size) (n : ℕ) → unlike s n ≡ false → n ≡ s .rows * s .columns
 unfolding unlike
 unlike-long s n h = eqb-true n (s .rows * s .columns) (not-false (eqb n (s .rows * s .columns)) h)
+
+pub not-unlike : (s : Size) (n : ℕ) → n ≡ s .rows * s .columns → unlike s n ≡ false
+unfolding unlike
+not-unlike s n e = rw (eq-eqb n (s .rows * s .columns) e)
 
 -- the largest byte so far is above 2 where one of them is
 ltb-max : (a b : ℕ) → ltb 2 (max a b) ≡ (ltb 2 a || ltb 2 b)
@@ -75,6 +80,16 @@ ready s cells n z =
     go : (k : ℕ) → any (length cells) (λ k. ltb 2 (getD cells k 0)) ≡ false → Dec (k < length cells) → getD cells k 0 < 3
     go k h (yes l) = let e : getD cells k 0 ≤ 2 = ltb-false 2 (getD cells k 0) (any-at (λ k. ltb 2 (getD cells k 0)) (length cells) h k l) in omega arith
     go k h (no l) = rw (List·getD-eq-default cells 0 {n = k} (omega arith)) (omega arith)
+
+pub ready-none : (s : Size) (cells : List ℕ) (n : ℕ) → Ready s cells n → None (packTests s cells n)
+unfolding packTests
+ready-none s cells n R = (
+  not-over s (R .rows) (R .columns),
+  (
+    rw (not-unlike s (length cells) (R .long)) (not-unfit s n (R .room)),
+    (any-none (λ k. ltb 2 (getD cells k 0)) (length cells) (λ k _. le-ltb 2 (getD cells k 0) (omega (arith, R .small k))), tt),
+  ),
+)
 
 -- the rows that are packed are those of the encoding
 pub packed-all : (q r c : ℕ) (cells new : List ℕ) → q ≡ planes c

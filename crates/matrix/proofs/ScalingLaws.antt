@@ -13,7 +13,8 @@ use Rattle.requests.specs.Answers.{first}
 use Rattle.requests.specs.Sizes.{unfit}
 use Rattle.requests.specs.Faults.{faults}
 use Rattle.requests.proofs.SizeLaws.{over-rows, over-columns, unfit-long}
-use Rattle.requests.proofs.AnswerLaws.{None, first-none}
+use Rattle.requests.specs.Exact.{None}
+use Rattle.requests.proofs.AnswerLaws.{first-none}
 use Rattle.matrix.specs.Scaling.{scalingTests}
 
 -- what no test's holding says

@@ -4,28 +4,29 @@ use mathlib.Core.List.{List}
 use Prim.Native.Nat.{ℕ, _+_, _-_, _*_, _/_, _^_, _≤_, _<_, min}
 use native.Mathlib.Decide.{decLt}
 use native.Mathlib.Omega.{arith}
-use lib.ListN.{length, getD}
+use lib.ListN.{length, getD, List·getD-eq-default}
 use lib.Pow.{shr-shr}
 use lib.Seq.{ext-getD}
 use Rattle.cells.specs.Pair.{digit}
 use Rattle.cells.proofs.AnyLaws.{or-left, or-right}
 use Rattle.cells.specs.Digit.{Matrix}
 use Rattle.buffers.specs.Buffer.{planes, cell, Legal, tab, joined}
-use Rattle.buffers.proofs.BufferLaws.{legal-tests, length-tab, getD-tab, length-joined, getD-joined, by-row}
+use Rattle.buffers.proofs.BufferLaws.{legal-tests, tests-legal, length-tab, getD-tab, length-joined, getD-joined, by-row}
 use Rattle.buffers.proofs.SizeLaws.{planes-room, planes-tight}
 use Rattle.requests.specs.declared.Size.{Size}
 use Rattle.requests.specs.Answers.{first}
 use Rattle.requests.specs.Sizes.{unfit}
 use Rattle.requests.specs.Faults.{faults}
-use Rattle.requests.proofs.SizeLaws.{over-rows, over-columns, unfit-long}
-use Rattle.requests.proofs.AnswerLaws.{None, first-none}
+use Rattle.requests.proofs.SizeLaws.{over-rows, over-columns, not-over, unfit-long, not-unfit}
+use Rattle.requests.specs.Exact.{None}
+use Rattle.requests.proofs.AnswerLaws.{first-none}
 use Rattle.rows.specs.Row.{column, Written}
 use Rattle.rows.proofs.RowLaws.{written-none, written-more}
 use Rattle.rows.proofs.TallyLaws.{column-word}
 use Rattle.rows.proofs.MatrixLaws.{column-cell}
 use Rattle.matrix.specs.Unpacked.{bytes, unlike}
 use Rattle.matrix.specs.Unpack.{unpackTests}
-use Rattle.matrix.proofs.PackLaws.{cells-in, unlike-long}
+use Rattle.matrix.proofs.PackLaws.{cells-in, unlike-long, not-unlike}
 
 -- what no test's holding says
 pub record Ready (s : Size) (a : List ℕ) (n : ℕ) : Type 0 where
@@ -44,6 +45,12 @@ ready s a n z =
       legal = legal-tests _ _ a (unfit-long s (length a) (or-left (unfit s (length a)) (unlike s n) (t .1 .0))) (t .1 .1 .0) (t .1 .1 .1 .0);
       room = unlike-long s n (or-right (unfit s (length a)) (unlike s n) (t .1 .0));
     }
+
+pub ready-none : (s : Size) (a : List ℕ) (n : ℕ) → Ready s a n → None (unpackTests s a n)
+unfolding unpackTests faults
+ready-none s a n R =
+    let t = tests-legal (s .rows) (s .columns) a (R .legal) in
+    (not-over s (R .rows) (R .columns), (rw (not-unfit s (length a) (R .legal .long)) (not-unlike s n (R .room)), (t .0, (t .1, tt))))
 
 -- a word that is halved place by place
 pub halved : (w v t : ℕ) → w ≡ v / 2 ^ t → w / 2 ≡ v / 2 ^ (t + 1)
@@ -93,3 +100,19 @@ bytes-all M r c new B =
     (λ n l.
     by-row (λ n. getD new n 0 ≡ getD (joined r (λ i. tab c (M i))) n 0) r c
     (λ i j h m. B .made i j h m ∙ sym (getD-joined r c (λ i. tab c (M i)) (λ i. length-tab c (M i)) i j h m ∙ getD-tab c (M i) j m)) n (omega (arith, B .len)))
+
+-- how long they are, and that each is a digit where M holds digits
+pub bytes-length : (r c : ℕ) (M : Matrix) → length (bytes r c M) ≡ r * c
+unfolding bytes
+bytes-length r c M = length-joined r c (λ i. tab c (M i)) (λ i. length-tab c (M i))
+
+pub byte-of : (r c : ℕ) (M : Matrix) (i j : ℕ) → i < r → j < c → getD (bytes r c M) (i * c + j) 0 ≡ M i j
+unfolding bytes
+byte-of r c M i j h l = getD-joined r c (λ i. tab c (M i)) (λ i. length-tab c (M i)) i j h l ∙ getD-tab c (M i) j l
+
+pub bytes-small : (r c : ℕ) (M : Matrix) → ((i j : ℕ) → M i j < 3) → (k : ℕ) → getD (bytes r c M) k 0 < 3
+bytes-small r c M d k = go (decLt k (r * c))
+  where
+    go : Dec (k < r * c) → getD (bytes r c M) k 0 < 3
+    go (yes h) = by-row (λ n. getD (bytes r c M) n 0 < 3) r c (λ i j p q. rw (byte-of r c M i j p q) (d i j)) k h
+    go (no h) = rw (List·getD-eq-default (bytes r c M) 0 {n = k} (omega (arith, bytes-length r c M))) (omega arith)

@@ -6,7 +6,6 @@ use lib.Dec.{ltb, eqb}
 use Rattle.buffers.specs.Buffer.{cell}
 use Rattle.requests.specs.declared.Size.{Size}
 use Rattle.requests.specs.Answers.{Tests}
-use Rattle.requests.specs.Sizes.{unfit}
 use Rattle.steps.specs.Count.{total}
 
 -- 0 means the default
@@ -27,10 +26,6 @@ productSize x y = record { rows = x .rows; columns = y .columns }
 -- A's columns aren't B's rows
 abbrev pub unmatched : Size → Size → Bool
 unmatched x y = not (eqb (x .columns) (y .rows))
-
--- one of the lengths of A, B, table and product is not exact
-unfoldable pub misfit : Size → Size → ℕ → ℕ → ℕ → ℕ → ℕ → Bool
-misfit x y width a b table product = unfit x a || (unfit y b || (unfit (tableSize y width) table || unfit (productSize x y) product))
 
 -- the exact total of A
 abbrev pub totalOf : Size → ℕ → List ℕ → ℕ

@@ -11,8 +11,11 @@ pub mod RowBlocks
 pub mod Transpose
 pub mod Tally
 pub mod Job
+pub mod Record
+pub mod Misfit
 pub mod Quote
 pub mod Total
 pub mod Opening
 pub mod Turn
+pub mod Stands
 pub mod Product

@@ -10,7 +10,8 @@ use Rattle.requests.specs.Answers.{Tests, answered}
 use Rattle.requests.specs.Sizes.{over}
 use Rattle.requests.specs.Faults.{pairFaults}
 use Rattle.matrix.specs.declared.job.Job.{Job}
-use Rattle.matrix.specs.Job.{meant, unmatched, misfit, countless}
+use Rattle.matrix.specs.Job.{meant, unmatched, countless}
+use Rattle.matrix.specs.Misfit.{misfit}
 
 -- the tests of sizes, width and lengths; t and p are how many words table and product have
 abbrev pub sizeTests : Size → Size → ℕ → List ℕ → List ℕ → ℕ → ℕ → Tests

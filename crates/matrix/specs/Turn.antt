@@ -14,7 +14,8 @@ use Rattle.steps.specs.StepList.{steps}
 use Rattle.steps.specs.Turn.{made, Place, turn}
 use Rattle.walk.specs.Ran.{found}
 use Rattle.matrix.specs.declared.job.Job.{Job}
-use Rattle.matrix.specs.Job.{unwide, tableSize, productSize, misfit, totalOf, countless}
+use Rattle.matrix.specs.Job.{unwide, tableSize, productSize, totalOf, countless}
+use Rattle.matrix.specs.Misfit.{misfit}
 
 abbrev pub sizeA : Job → Size
 sizeA job = record { rows = job .m; columns = job .l }

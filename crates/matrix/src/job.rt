@@ -1,11 +1,6 @@
-// A job's record, its sizes and the lengths of its buffers.
+// A job's record, and the width that is meant.
 ghost use mathlib.Core.Path.{_≡_};
-ghost use mathlib.Core.Bool.{false, _||_};
-ghost use Prim.Native.Nat.{_≤_};
-ghost use Rattle.requests.specs.Sizes.{over, unfit};
-ghost use Rattle.matrix.specs.Job.{meant, misfit};
-use requests::Size;
-use requests::sizes::unfit;
+ghost use Rattle.matrix.specs.Job.{meant};
 
 pub struct Job {
     pub m: u64,
@@ -23,37 +18,4 @@ pub fn meant(width: u64) -> u64
         return 4;
     }
     width
-}
-
-// A buffer isn't of the exact length: A, B, table or product.
-pub fn misfit(
-    x: Size,
-    y: Size,
-    width: u64,
-    a: usize,
-    b: usize,
-    table: usize,
-    product: usize,
-) -> bool
-    requires { ⌜ ((over x || over y) ≡ false) × (width ≤ 8) ⌝ }
-    ensures { λ r. ⌜ r ≡ misfit x y width a b table product ⌝ }
-{
-    if unfit(x, a) {
-        return true;
-    }
-    if unfit(y, b) {
-        return true;
-    }
-    let t = Size {
-        rows: 1 << width,
-        columns: y.columns,
-    };
-    if unfit(t, table) {
-        return true;
-    }
-    let p = Size {
-        rows: x.rows,
-        columns: y.columns,
-    };
-    unfit(p, product)
 }

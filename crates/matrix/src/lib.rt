@@ -3,6 +3,7 @@
 pub mod check;
 pub mod difference;
 pub mod job;
+mod misfit;
 pub mod negation;
 pub mod opening;
 pub mod pack;
@@ -15,3 +16,4 @@ pub mod total;
 pub mod transpose;
 pub mod turn;
 pub mod unpack;
+mod unpacked;

@@ -6,7 +6,7 @@ ghost use Rattle.requests.specs.Answers.{number, first};
 ghost use Rattle.matrix.specs.Opening.{fittingTests, openingTests, openingMeans};
 use super::job::Job;
 use super::job::meant;
-use super::job::misfit;
+use super::misfit::misfit;
 use requests::Answer;
 use requests::Size;
 use requests::faults::fault;

@@ -14,6 +14,7 @@ ghost use Rattle.rows.specs.Row.{Made};
 ghost use Rattle.matrix.specs.Gathered.{upTo};
 ghost use Rattle.matrix.specs.Unpacked.{unlike};
 ghost use Rattle.matrix.specs.Pack.{packOf, packTests, packMeans};
+use super::unpacked::unlike;
 use buffers::planes::planes;
 use buffers::planes::real;
 use cells::Cells;
@@ -23,16 +24,6 @@ use requests::number;
 use requests::sizes::over;
 use requests::sizes::unfit;
 use rows::words::store;
-
-// n bytes are not a matrix's.
-pub fn unlike(s: Size, n: usize) -> bool
-    requires { ⌜ over s ≡ false ⌝ }
-    ensures { λ r. ⌜ r ≡ unlike s n ⌝ }
-{
-    let r = s.rows as usize;
-    let c = s.columns as usize;
-    n != r * c
-}
 
 fn either_unlike(s: Size, n: usize, m: usize) -> bool
     requires { ⌜ over s ≡ false ⌝ }

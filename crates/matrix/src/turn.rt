@@ -11,7 +11,7 @@ ghost use Rattle.requests.specs.Faults.{pairFaults};
 ghost use Rattle.matrix.specs.Job.{unwide};
 ghost use Rattle.matrix.specs.Turn.{foundTests, turnedOf, turnMeans};
 use super::job::Job;
-use super::job::misfit;
+use super::misfit::misfit;
 use requests::Answer;
 use requests::Size;
 use requests::faults::fault;

@@ -10,7 +10,7 @@ ghost use Rattle.requests.specs.Sizes.{over, unfit};
 ghost use Rattle.rows.specs.Row.{column, Written};
 ghost use Rattle.matrix.specs.Unpacked.{unlike};
 ghost use Rattle.matrix.specs.Unpack.{unpackOf, unpackTests, unpackMeans};
-use super::pack::unlike;
+use super::unpacked::unlike;
 use buffers::planes::planes;
 use buffers::planes::real;
 use cells::Cells;

@@ -1,13 +1,15 @@
 -- What a list of tests answers. Assumes nothing.
 use mathlib.Core.Path.{_≡_, refl, sym, ap, subst, _∙_}
-use mathlib.Core.Bool.{Bool, true, false, _&&_}
+use mathlib.Core.Bool.{Bool, true, false, cond, _&&_}
 use mathlib.Core.List.{List, [], _∷_, _++_}
 use Prim.Native.Nat.{ℕ, zero, suc}
 use native.Mathlib.Omega.{arith}
 use lib.Dec.{T, ltb, ltb→lt}
+use mir.Val.{boolByte}
 use Rattle.requests.specs.declared.Answer.{Answer}
 use Rattle.requests.specs.declared.Answer.the-variants.{Done, TooLarge, SizesDiffer, WidthWrong, LengthWrong, StraySign, PaddingSet, StepsExceed, DigitWrong, TotalExceeds, NotAFrame, AboveLimit}
 use Rattle.requests.specs.Answers.{number, Tests, first, left, answered}
+use Rattle.requests.specs.Exact.{None, Gives, Numbered, Seen, Exact}
 
 -- ---- the code's way through the tests
 
@@ -59,20 +61,6 @@ module _ {S : Type 0} (ts : Tests) (old new : S) where
 
 -- ---- what an answer says
 
--- no test holds
-abbrev pub None : Tests → Type 0
-None [] = Unit {0}
-None ((t, n) ∷ ts) = (t ≡ false) × None ts
-
--- a test with the number n holds, and none before it does
-pub record Gives (n : ℕ) (ts : Tests) : Type 0 where
-  pub before : Tests
-  pub test : Bool
-  pub after : Tests
-  pub split : ts ≡ before ++ ((test, n) ∷ after)
-  pub none : None before
-  pub holds : test ≡ true
-
 past : (before : Tests) (test : Bool) (n : ℕ) (after : Tests) → None before → test ≡ true → first (before ++ ((test, n) ∷ after)) ≡ n
 past [] test n after h e = here test n after e
 past ((t, m) ∷ before) test n after h e = later t m (before ++ ((test, n) ∷ after)) (h .0) ∙ past before test n after (h .1) e
@@ -121,24 +109,36 @@ module _ {S : Type 0} (ts : Tests) (old new : S) where
       let z : first ts ≡ 0 = sym (ap (λ (o : ℕ × S). o .0) e) in
       (z, ap (λ (o : ℕ × S). o .1) e ∙ ap (λ (m : ℕ). left m old new) z)
 
--- all that a statement says of a request's answer: a number is given exactly when its test is the first that holds, and then what was
--- there is left; done is given exactly when no test holds, and then what is new is left
-pub record Exact {S : Type 0} (ts : Tests) (old new : S) (n : ℕ) (s : S) : Type 0 where
-  pub refused : (k : ℕ) → (k ≡ 0 → ⊥) → (n ≡ k → Gives k ts) × (Gives k ts → n ≡ k)
-  pub keeps : (n ≡ 0 → ⊥) → s ≡ old
-  pub done : (n ≡ 0 → None ts) × (None ts → n ≡ 0)
-  pub makes : n ≡ 0 → s ≡ new
+-- all that a statement says of a request's number, and of what it leaves
+pub numbered : (ts : Tests) (n : ℕ) → T (positive ts) → n ≡ first ts → Numbered ts n
+numbered ts n pos is = record {
+  refused = λ k ne. (λ e. given ts k ne (sym is ∙ e), λ g. is ∙ gives ts k g);
+  done = (λ e. first-none ts pos (sym is ∙ e), λ h. is ∙ none-first ts h);
+}
 
 pub exact : {S : Type 0} (ts : Tests) (old new : S) (n : ℕ) (s : S) → T (positive ts) → (n, s) ≡ answered ts old new → Exact ts old new n s
 exact {S = S} ts old new n s pos says = record {
-  refused = λ k ne. (λ e. given ts k ne (sym number-is ∙ e), λ g. number-is ∙ gives ts k g);
+  numbered = numbered ts n pos (ap (λ (v : ℕ × S). v .0) says ∙ answered-first ts old new);
   keeps = λ ne. refusal-keeps ts old new n s ne says;
-  done = (λ e. first-none ts pos (sym number-is ∙ e), λ h. number-is ∙ none-first ts h);
-  makes = λ e. done-makes ts old new s (subst (λ (m : ℕ). _≡_ {A = ℕ × S} (m, s) (answered ts old new)) e says) .1;
+  right = λ e. done-makes ts old new s (subst (λ (m : ℕ). _≡_ {A = ℕ × S} (m, s) (answered ts old new)) e says) .1;
 }
-  where
-    number-is : n ≡ first ts
-    number-is = ap (λ (v : ℕ × S). v .0) says ∙ answered-first ts old new
+
+-- what is right of the one thing that is left is seen
+pub seen : {S : Type 0} {ts : Tests} {old new : S} {Right : S → Type 0} {n : ℕ} {s : S} → Exact ts old new n s → (n ≡ 0 → Right s) → Seen ts old Right n s
+seen E right = record { numbered = E .numbered; keeps = E .keeps; right = right }
+
+-- .. and so is what is made of it
+pub mapped : {S U : Type 0} {ts : Tests} {old new : S} {n : ℕ} {s : S} (f : S → U) → Exact ts old new n s → Exact ts (f old) (f new) n (f s)
+mapped f E = record { numbered = E .numbered; keeps = λ ne. ap f (E .keeps ne); right = λ z. ap f (E .right z) }
+
+-- a request that is done, and what was done after it
+pub goes-on : {S : Type 0} {ts : Tests} {old s : S} {Right : S → Type 0} {n : ℕ} → Numbered ts n → n ≡ 0 → Right s → Seen ts old Right 0 s
+goes-on {ts = ts} N ok right = record { numbered = subst (λ (n : ℕ). Numbered ts n) ok N; keeps = λ ne. absurd (ne refl); right = λ _. right }
+
+-- yes or no as a number
+pub flag : (t : Bool) → boolByte t ≡ cond t 1 0
+flag true = refl
+flag false = refl
 
 -- ---- two outcomes that satisfy one statement coincide
 

@@ -14,7 +14,8 @@ use Rattle.requests.specs.Sizes.{over, unfit}
 use Rattle.requests.specs.Faults.{faults}
 use Rattle.requests.specs.Pair.{unequal, unfits, pairTests}
 use Rattle.requests.proofs.SizeLaws.{over-rows, over-columns, unfit-long}
-use Rattle.requests.proofs.AnswerLaws.{positive, None, first-none}
+use Rattle.requests.specs.Exact.{None}
+use Rattle.requests.proofs.AnswerLaws.{positive, first-none}
 use Rattle.buffers.proofs.BufferLaws.{legal-tests}
 
 pub faults-positive : (s : Size) (ws : List ℕ) → T (positive (faults s ws))

@@ -11,7 +11,8 @@ use Rattle.requests.specs.Sizes.{unfit}
 use Rattle.requests.specs.Faults.{faults}
 use Rattle.requests.specs.Single.{singleTests}
 use Rattle.requests.proofs.SizeLaws.{over-rows, over-columns, unfit-long}
-use Rattle.requests.proofs.AnswerLaws.{None, first-none}
+use Rattle.requests.specs.Exact.{None}
+use Rattle.requests.proofs.AnswerLaws.{first-none}
 use Rattle.buffers.proofs.BufferLaws.{legal-tests}
 
 -- what no test's holding says

@@ -1,4 +1,5 @@
 pub mod Answers
+pub mod Exact
 pub mod Sizes
 pub mod Faults
 pub mod Single

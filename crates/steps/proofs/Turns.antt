@@ -1,10 +1,10 @@
 -- Theorem: whatever the budgets, turns stand where one run of that many steps would. Assumes nothing.
-use Prim.Native.Nat.{ℕ, _+_, _≤_, _<_, min}
+use Prim.Native.Nat.{ℕ, zero, suc, _+_, _≤_, _<_, min}
 use mathlib.Core.Path.{_≡_, refl, ap, _∙_}
 use mathlib.Core.List.{List, [], _∷_}
 use native.Mathlib.Omega.{arith}
 use native.Mathlib.Nat.{zero-add}
-use lib.ListN.{length, drop}
+use lib.ListN.{length, take, drop, getD}
 use lib.Seq.{take-add, take-all}
 use Rattle.cells.specs.Digit.{Matrix}
 use Rattle.steps.specs.Matrix.{Digits, schoolbook}
@@ -41,6 +41,15 @@ pub turns-from-start : {S : Type 0} (R : ℕ → S → S → Type 0) (Stands : �
     → ((d budget : ℕ) (s s₁ : S) → d ≤ long → Stands d s → R budget s s₁ → Stands (min (d + budget) long) s₁)
     → (budgets : List ℕ) (s s₁ : S) → Stands 0 s → Given R s budgets s₁ → Stands (min (allBudgets budgets) long) s₁
 turns-from-start R Stands long one budgets s s₁ at given = rw zero-add at (any-turns R Stands long one budgets 0 s s₁ (omega arith) at given)
+
+-- one budget more
+pub budgets-more : (budgets : List ℕ) (i : ℕ) → i < length budgets → allBudgets (take (i + 1) budgets) ≡ allBudgets (take i budgets) + getD budgets i 0
+unfolding allBudgets
+budgets-more [] i h = absurd (omega arith)
+budgets-more (budget ∷ budgets) zero h = omega arith
+budgets-more (budget ∷ budgets) (suc i) h =
+    let e : suc i + 1 ≡ suc (i + 1) = omega arith in
+    rw e (omega (arith, budgets-more budgets i (omega arith)))
 
 module _ (B : Matrix) (ps : List Step) (st : State) where
   -- b steps more after a of them are a + b steps

@@ -1,9 +1,10 @@
 -- Counts of steps from the bits of A's rows. Assumes nothing.
 use mathlib.Core.Path.{_≡_, sym, ap, ap₂, _∙_}
 use mathlib.Core.List.{List}
-use Prim.Native.Nat.{ℕ, _+_, _-_, _*_, _%_, _^_, _≤_, _<_, min}
+use Prim.Native.Nat.{ℕ, suc, _+_, _-_, _*_, _%_, _^_, _≤_, _<_, min}
 use native.Mathlib.Numerals.{add-one}
 use native.Mathlib.Omega.{arith}
+use borrow.Author.Count.{below-more}
 use lib.Pow.{pow-mono}
 use Rattle.cells.specs.Counts.{sum, bitsOf}
 use Rattle.cells.specs.Digit.{Matrix}
@@ -12,6 +13,8 @@ use Rattle.rows.specs.Row.{column}
 use Rattle.rows.proofs.MatrixLaws.{column-cell}
 use Rattle.steps.specs.StepList.{P, N, blocks, blockWidth}
 use Rattle.steps.specs.Count.{total, rowCount, blockCount, countAt}
+use Rattle.walk.specs.declared.place.Standing.{Standing}
+use Rattle.walk.specs.Place.{StandsAt}
 use Rattle.steps.proofs.Counts.{row-le, total-counts, total-small}
 use Rattle.cells.proofs.SumLaws.{sum-none, sum-last, sum-le, sum-mono, sum-same}
 
@@ -54,5 +57,18 @@ module _ (m l k : ℕ) (A : Matrix) where
   pub place-small : (b n : ℕ) → m ≤ 1024 → l ≤ 1024 → 0 < k → k ≤ 8 → b ≤ blocks l k → n ≡ sum 0 b (countAt m l k A) → n < 2 ^ 32
   place-small b n hm hl pos hk hb en = omega (arith, en, sum-mono (countAt m l k A) b (blocks l k) hb, total-counts m l k A, total-small m l k A hm hl pos hk)
 
+  -- no block up to b that comes after `block` begins at or before the steps done
+  abbrev pub Last : ℕ → ℕ → ℕ → Type 0
+  Last done block b = (c : ℕ) → c < b + 1 → block < c → done < sum 0 c (countAt m l k A)
+
+  pub last-still : (done block b : ℕ) → Last done block b → done < sum 0 (b + 1) (countAt m l k A) → Last done block (b + 1)
+  last-still done block b all here = below-more (λ c. block < c → done < sum 0 c (countAt m l k A)) (b + 1) all (λ _. here)
+
   pub place-all : (b n : ℕ) → b ≡ blocks l k → n ≡ sum 0 b (countAt m l k A) → n ≡ total m l k A
   place-all b n eb en = (rw eb at en) ∙ sym (total-counts m l k A)
+
+  -- of the steps done, those after the place's block began are fewer than its own
+  pub skip-within : (done : ℕ) (at : Standing) → StandsAt m l k A done at → at .block < blocks l k → done - at .before < countAt m l k A (at .block)
+  skip-within done at S h =
+      let e = S .last (suc (at .block)) (omega arith) (omega arith) in
+      omega (arith, e, S .before-is, S .begun, sum-last (countAt m l k A) (at .block))

@@ -4,6 +4,7 @@ ghost use Prim.Native.Nat.{_+_, _*_, _^_, _≤_, _<_, min};
 ghost use lib.ListN.{length};
 ghost use Rattle.buffers.specs.Buffer.{cell, Legal};
 ghost use Rattle.steps.specs.StepList.{each, blocks, blockAt};
+ghost use Rattle.steps.specs.Count.{countAt};
 ghost use Rattle.steps.specs.Turn.{due};
 ghost use Rattle.walk.specs.Spent.{Spent};
 ghost use Rattle.walk.specs.Ran.{Ran};
@@ -50,7 +51,7 @@ fn block_part(
     rows_part(product, table, a, shape, s, w, rest)
 }
 
-// The steps that are due from block c on.
+// The steps that are due from block c on, in which they begin: those to skip are fewer than its own.
 pub fn blocks_part(
     table: &mut [u64],
     product: &mut [u64],
@@ -60,7 +61,7 @@ pub fn blocks_part(
     c: usize,
     left: Left,
 )
-    requires { ⌜ Within shape × Legal (2 ^ shape .width) (shape .n) (now table) × Legal (shape .m) (shape .n) (now product) × Legal (shape .m) (shape .l) (now a) × Legal (shape .l) (shape .n) (now b) × (c ≤ blocks (shape .l) (shape .width)) ⌝ }
+    requires { ⌜ Within shape × Legal (2 ^ shape .width) (shape .n) (now table) × Legal (shape .m) (shape .n) (now product) × Legal (shape .m) (shape .l) (now a) × Legal (shape .l) (shape .n) (now b) × (c ≤ blocks (shape .l) (shape .width)) × (c < blocks (shape .l) (shape .width) → left .skip < countAt (shape .m) (shape .l) (shape .width) (cell (shape .l) (now a)) c) ⌝ }
     ensures { λ _. ⌜ Ran (shape .width) (shape .m) (shape .n) (cell (shape .n) (now (b .entry))) (due (left .skip) (left .budget) (each c (blocks (shape .l) (shape .width)) (blockAt (shape .m) (shape .l) (shape .width) (cell (shape .l) (now (a .entry)))))) (now (table .entry)) (now (product .entry)) (now (table .exit)) (now (product .exit)) ⌝ }
 {
     let end = blocks(shape.l, shape.width);

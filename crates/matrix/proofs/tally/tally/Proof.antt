@@ -6,7 +6,8 @@ use lib.ListN.{getD}
 use Rattle.buffers.proofs.BufferLaws.{legal-tests}
 use Rattle.requests.specs.Faults.{faults}
 use Rattle.requests.proofs.SizeLaws.{over-columns, unfit-long}
-use Rattle.requests.proofs.AnswerLaws.{None, first-none, refused, finished}
+use Rattle.requests.specs.Exact.{None}
+use Rattle.requests.proofs.AnswerLaws.{first-none, refused, finished}
 use Rattle.rows.specs.Tally.{tallyRow}
 use Rattle.matrix.specs.Check.{checkTests, checkMeans}
 use Rattle.matrix.specs.Tally.{tallyMeans}

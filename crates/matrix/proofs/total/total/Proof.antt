@@ -34,11 +34,11 @@ place-requires c κs =
 
 returns-2 : tie.Need-returns-2
 unfolding totalMeans totalTests
-returns-2 c = refused _ _ _ 9 (λ z. omega arith) (append-none (listTests (c .before .before .before .before .before .before .before .args .x) (c .before .before .before .before .before .before .before .args .width) (c .before .before .before .before .before .before .before .args .a .now)) (countless (c .before .before .before .before .before .before .before .args .x) (meant (c .before .before .before .before .before .before .before .args .width)) (c .before .before .before .before .before .before .before .args .a .now)) (list-positive (c .before .before .before .before .before .before .before .args .x) (c .before .before .before .before .before .before .before .args .width) (c .before .before .before .before .before .before .before .args .a .now)) (sym (c .before .before .before .before .before .judged .ensures) ∙ sym (c .before .before .before .before .number .ensures) ∙ c .before .before .before .if1 .left) ∙ here _ 9 [] (lt-ltb 4294967295 _ (rw (c .before .place .ensures .0 ∙ ap (λ (k : ℕ). total (c .before .before .before .before .before .before .before .args .x .rows) (c .before .before .before .before .before .before .before .args .x .columns) k (cell (c .before .before .before .before .before .before .before .args .x .columns) (c .before .before .before .before .before .before .before .args .a .now))) (c .before .before .meant .ensures)) at (c .if2 .taken))))
+returns-2 c = refused _ _ _ 9 (λ z. omega arith) (append-none (listTests (c .before .before .before .before .before .before .before .args .x) (c .before .before .before .before .before .before .before .args .width) (c .before .before .before .before .before .before .before .args .a .now)) (countless (c .before .before .before .before .before .before .before .args .x) (meant (c .before .before .before .before .before .before .before .args .width)) (c .before .before .before .before .before .before .before .args .a .now)) (list-positive (c .before .before .before .before .before .before .before .args .x) (c .before .before .before .before .before .before .before .args .width) (c .before .before .before .before .before .before .before .args .a .now)) (sym (c .before .before .before .before .before .judged .ensures) ∙ sym (c .before .before .before .before .number .ensures) ∙ c .before .before .before .if1 .left) ∙ here _ 9 [] (lt-ltb 4294967295 _ (rw (c .before .place .ensures .total-is ∙ ap (λ (k : ℕ). total (c .before .before .before .before .before .before .before .args .x .rows) (c .before .before .before .before .before .before .before .args .x .columns) k (cell (c .before .before .before .before .before .before .before .args .x .columns) (c .before .before .before .before .before .before .before .args .a .now))) (c .before .before .meant .ensures)) at (c .if2 .taken))))
 
 returns-3 : tie.Need-returns-3
 unfolding totalMeans totalTests first
-returns-3 c = finished _ _ _ _ (append-none (listTests (c .before .before .before .before .before .before .before .args .x) (c .before .before .before .before .before .before .before .args .width) (c .before .before .before .before .before .before .before .args .a .now)) (countless (c .before .before .before .before .before .before .before .args .x) (meant (c .before .before .before .before .before .before .before .args .width)) (c .before .before .before .before .before .before .before .args .a .now)) (list-positive (c .before .before .before .before .before .before .before .args .x) (c .before .before .before .before .before .before .before .args .width) (c .before .before .before .before .before .before .before .args .a .now)) (sym (c .before .before .before .before .before .judged .ensures) ∙ sym (c .before .before .before .before .number .ensures) ∙ c .before .before .before .if1 .left) ∙ later _ 9 [] (le-ltb 4294967295 _ (rw (c .before .place .ensures .0 ∙ ap (λ (k : ℕ). total (c .before .before .before .before .before .before .before .args .x .rows) (c .before .before .before .before .before .before .before .args .x .columns) k (cell (c .before .before .before .before .before .before .before .args .x .columns) (c .before .before .before .before .before .before .before .args .a .now))) (c .before .before .meant .ensures)) at (c .if2 .left)))) (c .before .place .ensures .0 ∙ ap (λ (k : ℕ). total (c .before .before .before .before .before .before .before .args .x .rows) (c .before .before .before .before .before .before .before .args .x .columns) k (cell (c .before .before .before .before .before .before .before .args .x .columns) (c .before .before .before .before .before .before .before .args .a .now))) (c .before .before .meant .ensures))
+returns-3 c = finished _ _ _ _ (append-none (listTests (c .before .before .before .before .before .before .before .args .x) (c .before .before .before .before .before .before .before .args .width) (c .before .before .before .before .before .before .before .args .a .now)) (countless (c .before .before .before .before .before .before .before .args .x) (meant (c .before .before .before .before .before .before .before .args .width)) (c .before .before .before .before .before .before .before .args .a .now)) (list-positive (c .before .before .before .before .before .before .before .args .x) (c .before .before .before .before .before .before .before .args .width) (c .before .before .before .before .before .before .before .args .a .now)) (sym (c .before .before .before .before .before .judged .ensures) ∙ sym (c .before .before .before .before .number .ensures) ∙ c .before .before .before .if1 .left) ∙ later _ 9 [] (le-ltb 4294967295 _ (rw (c .before .place .ensures .total-is ∙ ap (λ (k : ℕ). total (c .before .before .before .before .before .before .before .args .x .rows) (c .before .before .before .before .before .before .before .args .x .columns) k (cell (c .before .before .before .before .before .before .before .args .x .columns) (c .before .before .before .before .before .before .before .args .a .now))) (c .before .before .meant .ensures)) at (c .if2 .left)))) (c .before .place .ensures .total-is ∙ ap (λ (k : ℕ). total (c .before .before .before .before .before .before .before .args .x .rows) (c .before .before .before .before .before .before .before .args .x .columns) k (cell (c .before .before .before .before .before .before .before .args .x .columns) (c .before .before .before .before .before .before .before .args .a .now))) (c .before .before .meant .ensures))
 
 pub total-spec : {M : Type 1} → statement M
 total-spec =

@@ -1,4 +1,6 @@
 use mathlib.Core.Path.{refl}
+use Rattle.buffers.specs.Buffer.{cell}
+use Rattle.walk.proofs.CountLaws.{skip-within}
 use Rattle.matrix.proofs.JobLaws.{standing-ready, turn-done}
 use borrow.Author.Needs.{needs}
 use Rattle.matrix.proofs.turn.accepted.Statement.{statement}
@@ -17,7 +19,7 @@ blocks-part-requires : tie.Need-blocks-part-requires
 blocks-part-requires c κs =
     let s = c .before .before .before .before .before .before .before .before .before .before .before in
     let st = standing-ready (s .args .job) (s .args .a .now) (s .args .b .now) (s .args .table .now) (s .args .product .now) (s .pre .0) in
-    (record { m = st .m; l = st .l; n = st .n; some = st .some; width = st .width }, st .table, st .product, st .left, st .right, s .pre .1 .3)
+    (record { m = st .m; l = st .l; n = st .n; some = st .some; width = st .width }, st .table, st .product, st .left, st .right, s .pre .1 .within, skip-within (s .args .job .m) (s .args .job .l) (s .args .job .width) (cell (s .args .job .l) (s .args .a .now)) (s .args .job .done) (s .args .at) (s .pre .1))
 
 add-next : tie.Need-add-next
 add-next c = search needs

@@ -48,7 +48,7 @@ returns-2 : tie.Need-returns-2
 unfolding turnMeans
 returns-2 c =
     let s = c .before .before .before .before .before .before .before .before .before .before .before .before .before in
-    let total = c .before .before .before .place .ensures .0 in
+    let total = c .before .before .before .place .ensures .total-is in
     rw (c .refused2 .ensures .0, c .refused2 .ensures .1, c .refused2 .ensures .2, c .refused2 .ensures .3)
     (refused _ _ _ 9 (λ z. omega arith) (turn-countless (s .args .job) (s .args .a .now) (s .args .b .now) (s .args .table .now) (s .args .product .now) (sym (c .before .before .before .before .before .before .judged .ensures) ∙ sym (c .before .before .before .before .before .number .ensures) ∙ c .before .before .before .before .if1 .left) (rw total at (c .before .if2 .taken))))
 
@@ -65,7 +65,7 @@ returns-3 : tie.Need-returns-3
 unfolding turnMeans
 returns-3 c =
     let s = c .before .before .before .before .before .before .before .before .before .before .before .before .before .before .before .before in
-    let total = c .before .before .before .before .before .before .place .ensures .0 in
+    let total = c .before .before .before .before .before .before .place .ensures .total-is in
     rw (c .refused3 .ensures .0, c .refused3 .ensures .1, c .refused3 .ensures .2, c .refused3 .ensures .3)
     (refused _ _ _ 7 (λ z. omega arith) (turn-exceeds (s .args .job) (s .args .a .now) (s .args .b .now) (s .args .table .now) (s .args .product .now) (sym (c .before .before .before .before .before .before .before .before .before .judged .ensures) ∙ sym (c .before .before .before .before .before .before .before .before .number .ensures) ∙ c .before .before .before .before .before .before .before .if1 .left) (rw total at (c .before .before .before .before .if2 .left)) (rw total at (c .before .if3 .taken))))
 
@@ -82,7 +82,7 @@ returns-4 : tie.Need-returns-4
 unfolding turnMeans
 returns-4 c =
     let s = c .before .before .before .before .before .before .before .before .before .before .before .before .before .before .before .before .before .before .before .before .before .before in
-    let total = c .before .before .before .before .before .before .before .before .before .before .before .before .place .ensures .0 in
+    let total = c .before .before .before .before .before .before .before .before .before .before .before .before .place .ensures .total-is in
     let done = c .before .before .before .before .accepted .ensures in
     rw (done .0, done .1)
     (finished _ _ _ _ (turn-none (s .args .job) (s .args .a .now) (s .args .b .now) (s .args .table .now) (s .args .product .now) (sym (c .before .before .before .before .before .before .before .before .before .before .before .before .before .before .before .judged .ensures) ∙ sym (c .before .before .before .before .before .before .before .before .before .before .before .before .before .before .number .ensures) ∙ c .before .before .before .before .before .before .before .before .before .before .before .before .before .if1 .left) (rw total at (c .before .before .before .before .before .before .before .before .before .before .if2 .left)) (rw total at (c .before .before .before .before .before .before .before .if3 .left))) refl)

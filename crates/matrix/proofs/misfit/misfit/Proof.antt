@@ -4,11 +4,11 @@ use Rattle.cells.proofs.AnyLaws.{or-left, or-right}
 use Rattle.requests.specs.Sizes.{over, unfit}
 use Rattle.requests.proofs.SizeLaws.{over-rows, over-columns}
 use Rattle.walk.proofs.CountLaws.{shift-one}
-use Rattle.matrix.specs.Job.{misfit}
+use Rattle.matrix.specs.Misfit.{misfit}
 use Rattle.matrix.proofs.JobLaws.{table-small, product-small}
 use borrow.Author.Needs.{needs}
-use Rattle.matrix.proofs.job.misfit.Statement.{statement}
-use Rattle.matrix.proofs.job.misfit.Tie as tie
+use Rattle.matrix.proofs.misfit.misfit.Statement.{statement}
+use Rattle.matrix.proofs.misfit.misfit.Tie as tie
 
 unfit-requires : tie.Need-unfit-requires
 unfit-requires c κs = or-left (over (c .args .x)) (over (c .args .y)) (c .pre .0)
