@@ -5,8 +5,8 @@ use Rattle.requests.specs.Answers.{first, left, answered}
 use Rattle.requests.specs.Sizes.{over}
 use Rattle.buffers.specs.Buffer.{planes, wide, tab, joined}
 use Rattle.cells.specs.Any.{any}
-use Rattle.frames.specs.Digit.{digitOf, byteOf, nibble}
-use Rattle.frames.specs.Line.{hexOf, valueOf, undigit, unframed}
+use Rattle.hex.specs.Digit.{digitOf, byteOf, nibble}
+use Rattle.hex.specs.Line.{hexOf, valueOf, undigit, unframed}
 use Rattle.frames.specs.Header.{headerOf, sizeOf, readHeaderTests, readHeaderMeans}
 use Rattle.frames.specs.RowLine.{lineLong, lineOf, wordsOf, readRowTests, readRowMeans, writeRowTests, writeRowMeans}
 

@@ -11,8 +11,8 @@ use Rattle.requests.specs.declared.Size.{Size}
 use Rattle.requests.specs.Answers.{number, first, left, answered}
 use Rattle.requests.specs.Sizes.{over}
 use Rattle.requests.proofs.ShownOut.{ShownOut, shown-out}
-use Rattle.frames.specs.Digit.{digitOf, byteOf, nibble}
-use Rattle.frames.specs.Line.{hexOf, valueOf, undigit, unframed}
+use Rattle.hex.specs.Digit.{digitOf, byteOf, nibble}
+use Rattle.hex.specs.Line.{hexOf, valueOf, undigit, unframed}
 use Rattle.frames.specs.Header.{headerOf, sizeOf, readHeaderTests, readHeaderMeans, writeHeaderTests, writeHeaderMeans}
 use Rattle.frames.specs.RowLine.{lineLong, lineOf, wordsOf, readRowTests, readRowMeans, writeRowTests, writeRowMeans}
 

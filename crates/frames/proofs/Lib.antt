@@ -1,7 +1,4 @@
 -- Laws that belong to no one function, for this crate and those above it.
-pub mod HexLaws
-pub mod DigitLaws
-pub mod LineLaws
 pub mod HeaderLaws
 pub mod RowLineLaws
 pub mod RoundTrips

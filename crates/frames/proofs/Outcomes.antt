@@ -7,7 +7,8 @@ use Rattle.buffers.specs.Buffer.{wide}
 use Rattle.requests.specs.declared.Size.{Size}
 use Rattle.requests.specs.declared.Answer.{Answer}
 use Rattle.requests.specs.Answers.{number}
-use Rattle.requests.proofs.AnswerLaws.{coincide, Exact, exact}
+use Rattle.requests.specs.Exact.{Exact}
+use Rattle.requests.proofs.AnswerLaws.{coincide, exact}
 use Rattle.frames.specs.declared.header.Header.{Header}
 use Rattle.frames.specs.Header.{headerOf, sizeOf, readHeaderTests, readHeaderMeans, writeHeaderTests, writeHeaderMeans}
 use Rattle.frames.specs.RowLine.{lineOf, wordsOf, readRowTests, readRowMeans, writeRowTests, writeRowMeans}

@@ -16,34 +16,15 @@ use Rattle.requests.specs.Answers.{first}
 use Rattle.requests.specs.Sizes.{over}
 use Rattle.requests.proofs.AnswerLaws.{finished, first-none, later, none-first}
 use Rattle.requests.proofs.SizeLaws.{over-rows, over-columns}
-use Rattle.frames.specs.Digit.{byteOf, nibble}
-use Rattle.frames.specs.Line.{hexOf, valueOf, unframed}
+use Rattle.hex.specs.Digit.{byteOf, nibble}
+use Rattle.hex.specs.Line.{hexOf, valueOf, unframed}
 use Rattle.frames.specs.Header.{headerOf, sizeOf, readHeaderTests, readHeaderMeans, writeHeaderTests, writeHeaderMeans}
 use Rattle.frames.specs.RowLine.{lineLong, lineOf, wordsOf, readRowTests, readRowMeans, writeRowTests, writeRowMeans}
-use Rattle.frames.proofs.HexLaws.{Framed, framed}
-use Rattle.frames.proofs.DigitLaws.{Says, value-said, byte-value, nibble-lt, framed-line}
-use Rattle.frames.proofs.LineLaws.{Filled, hex-length, hex-filled, header-eight}
-use Rattle.frames.proofs.HeaderLaws.{header-over, header-read}
+use Rattle.hex.proofs.HexLaws.{Framed, framed}
+use Rattle.hex.proofs.DigitLaws.{Says, value-said, byte-value, nibble-lt, framed-line}
+use Rattle.hex.proofs.LineLaws.{Filled, hex-length, hex-filled, end-length, end-front, same-line}
+use Rattle.frames.proofs.HeaderLaws.{header-over, header-read, header-eight}
 use Rattle.frames.proofs.RowLineLaws.{byteAt, row-filled}
-
--- ---- a line of n bytes and byte 10
-
-end-length : (xs : List ℕ) (n : ℕ) → length xs ≡ n → length (xs ++ (10 ∷ [])) ≡ n + 1
-end-length xs n e = simp length-append (omega arith)
-
-end-front : (xs : List ℕ) (n : ℕ) (f : ℕ → ℕ) → length xs ≡ n → Filled f n xs → Filled f n (xs ++ (10 ∷ []))
-end-front xs n f e h k l = List·getD-append xs (10 ∷ []) 0 k (omega arith) ∙ h k l
-
--- two lines of one length that agree in the first n bytes and in byte 10
-same-line : (xs line : List ℕ) (n : ℕ) (f : ℕ → ℕ) → length xs ≡ n → Filled f n xs → Framed line n → Filled f n line → xs ++ (10 ∷ []) ≡ line
-same-line xs line n f e h F g =
-    ext-getD 0 (xs ++ (10 ∷ [])) line (end-length xs n e ∙ sym (F .long)) (λ i l. go i (omega (arith, end-length xs n e)) (decLt i n))
-  where
-    go : (i : ℕ) → i < n + 1 → Dec (i < n) → getD (xs ++ (10 ∷ [])) i 0 ≡ getD line i 0
-    go i l (yes m) = end-front xs n f e h i m ∙ sym (g i m)
-    go i l (no m) =
-        let d : i ≡ n = omega arith in
-        rw d (getD-at xs 10 [] 0 n e ∙ sym (F .end))
 
 -- ---- rows
 

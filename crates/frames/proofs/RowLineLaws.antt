@@ -14,11 +14,11 @@ use Rattle.buffers.proofs.SizeLaws.{planes-le}
 use Rattle.buffers.proofs.BufferLaws.{length-tab, getD-tab, length-joined, getD-joined, by-row}
 use Rattle.requests.specs.Answers.{first}
 use Rattle.requests.proofs.AnswerLaws.{first-none}
-use Rattle.frames.specs.Digit.{byteOf, nibble}
-use Rattle.frames.specs.Line.{hexOf, valueOf, unframed}
+use Rattle.hex.specs.Digit.{byteOf, nibble}
+use Rattle.hex.specs.Line.{hexOf, valueOf, unframed}
 use Rattle.frames.specs.RowLine.{lineLong, lineOf, wordsOf, readRowTests, writeRowTests}
-use Rattle.frames.proofs.HexLaws.{Framed, framed}
-use Rattle.frames.proofs.LineLaws.{Filled, filled-end, hex-length, hex-filled}
+use Rattle.hex.proofs.HexLaws.{Framed, framed}
+use Rattle.hex.proofs.LineLaws.{Filled, filled-end, hex-length, hex-filled}
 
 pub wide-le : (c : ℕ) → c ≤ 1024 → wide c ≤ 32
 unfolding wide

@@ -7,7 +7,7 @@ use lib.ListN.{length}
 use Rattle.requests.specs.declared.Size.{Size}
 use Rattle.requests.specs.Answers.{Tests, answered}
 use Rattle.requests.specs.Sizes.{over}
-use Rattle.frames.specs.Line.{hexOf, valueOf, unframed}
+use Rattle.hex.specs.Line.{hexOf, valueOf, unframed}
 
 unfoldable pub headerOf : Size → List ℕ
 headerOf s = hexOf 4 (s .rows) ++ (hexOf 4 (s .columns) ++ (10 ∷ []))

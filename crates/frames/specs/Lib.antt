@@ -1,4 +1,2 @@
-pub mod Digit
-pub mod Line
 pub mod Header
 pub mod RowLine

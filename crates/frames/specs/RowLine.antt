@@ -6,7 +6,7 @@ use lib.Dec.{ltb, eqb}
 use lib.ListN.{length, getD}
 use Rattle.buffers.specs.Buffer.{wide, tab, joined}
 use Rattle.requests.specs.Answers.{Tests, answered}
-use Rattle.frames.specs.Line.{hexOf, valueOf, unframed}
+use Rattle.hex.specs.Line.{hexOf, valueOf, unframed}
 
 -- how many bytes the line of a row has
 unfoldable pub lineLong : ℕ → ℕ

@@ -2,9 +2,9 @@
 ghost use mathlib.Core.Path.{_≡_};
 ghost use Rattle.requests.specs.Answers.{number};
 ghost use Rattle.frames.specs.Header.{readHeaderMeans, writeHeaderMeans};
-use super::line::put;
-use super::line::unframed;
-use super::line::value;
+use hex::line::put;
+use hex::line::unframed;
+use hex::line::value;
 use requests::Answer;
 use requests::Size;
 use requests::sizes::over;

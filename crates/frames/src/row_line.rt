@@ -3,12 +3,12 @@ ghost use mathlib.Core.Path.{_≡_};
 ghost use Prim.Native.Nat.{ℕ, _+_, _*_, _≤_, _<_};
 ghost use lib.ListN.{length, getD};
 ghost use Rattle.requests.specs.Answers.{number, first};
-ghost use Rattle.frames.specs.Digit.{digitOf};
+ghost use Rattle.hex.specs.Digit.{digitOf};
 ghost use Rattle.frames.specs.RowLine.{lineOf, wordsOf, readRowTests, readRowMeans, writeRowTests, writeRowMeans};
-use super::digit::byte_of;
-use super::line::unframed;
-use super::line::value;
 use buffers::planes::planes;
+use hex::digit::byte_of;
+use hex::line::unframed;
+use hex::line::value;
 use requests::Answer;
 use requests::number;
 

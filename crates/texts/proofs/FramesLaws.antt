@@ -11,7 +11,7 @@ use Rattle.buffers.proofs.SizeLaws.{planes-le}
 use Rattle.requests.specs.declared.Size.{Size}
 use Rattle.requests.specs.Answers.{first, left, answered}
 use Rattle.requests.specs.Sizes.{over}
-use Rattle.frames.specs.Line.{hexOf}
+use Rattle.hex.specs.Line.{hexOf}
 use Rattle.frames.specs.Header.{headerOf, writeHeaderTests, writeHeaderMeans}
 use Rattle.frames.specs.RowLine.{lineLong}
 use Rattle.texts.specs.MatrixText.{linesOf}

@@ -14,8 +14,8 @@ use Rattle.requests.proofs.ShownOut.{ShownOut, shown-out}
 use Rattle.steps.specs.Count.{total}
 use Rattle.steps.specs.StepList.{many, each, blocks, steps}
 use Rattle.matrix.specs.Job.{meant}
-use Rattle.frames.specs.Digit.{digitOf, byteOf, nibble}
-use Rattle.frames.specs.Line.{hexOf, valueOf, undigit, unframed}
+use Rattle.hex.specs.Digit.{digitOf, byteOf, nibble}
+use Rattle.hex.specs.Line.{hexOf, valueOf, undigit, unframed}
 use Rattle.frames.specs.Header.{headerOf, sizeOf, readHeaderTests}
 use Rattle.frames.specs.RowLine.{lineLong}
 use Rattle.texts.specs.MatrixText.{misread, wordsRead, linesOf, sizeIn, wordsIn, restOf, above, headTests, matrixTests}

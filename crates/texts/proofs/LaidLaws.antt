@@ -10,7 +10,7 @@ use lib.Seq.{take-at, drop-at, drop-drop}
 use borrow.Author.Tests.{lt-ltb, le-ltb}
 use Rattle.buffers.specs.Buffer.{tab, joined}
 use Rattle.buffers.proofs.BufferLaws.{length-joined}
-use Rattle.frames.specs.Line.{hexOf}
+use Rattle.hex.specs.Line.{hexOf}
 use Rattle.texts.specs.Multiply.{refusal, laid, placed}
 
 pub laid-length : (text out : List ℕ) → length text ≤ length out → length (laid text out) ≡ length out

@@ -7,6 +7,7 @@ pub mod ProductLaws
 pub mod FormLaws
 pub mod MultiplyLaws
 pub mod Outcomes
+pub mod Printed
 pub mod Limits
 pub mod Sample
 pub mod Impostors

@@ -14,7 +14,7 @@ use Rattle.buffers.specs.Buffer.{planes, wide, joined, cell, encode}
 use Rattle.requests.specs.declared.Size.{Size}
 use Rattle.requests.specs.Answers.{Tests, first}
 use Rattle.requests.proofs.AnswerLaws.{append-given, append-none, append-front, first-none}
-use Rattle.frames.specs.Line.{unframed}
+use Rattle.hex.specs.Line.{unframed}
 use Rattle.frames.specs.Header.{sizeOf, readHeaderTests}
 use Rattle.frames.specs.RowLine.{lineLong, wordsOf}
 use Rattle.steps.specs.Matrix.{schoolbook}

@@ -15,7 +15,8 @@ use Rattle.requests.specs.Faults.{faults}
 use Rattle.requests.proofs.SizeLaws.{not-over, not-unfit}
 use Rattle.requests.proofs.AnswerLaws.{here, later, first-none, none-first, finished}
 use Rattle.steps.proofs.Counts.{total-small}
-use Rattle.matrix.specs.Job.{meant, tableSize, productSize, misfit, totalOf}
+use Rattle.matrix.specs.Job.{meant, tableSize, productSize, totalOf}
+use Rattle.matrix.specs.Misfit.{misfit}
 use Rattle.matrix.specs.Opening.{fittingTests, openingTests}
 use Rattle.matrix.specs.Total.{listTests, totalTests, totalMeans}
 use Rattle.matrix.proofs.JobLaws.{opening-first}

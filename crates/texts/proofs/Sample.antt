@@ -15,8 +15,8 @@ use Rattle.steps.specs.Matrix.{schoolbook}
 use Rattle.steps.specs.Count.{total}
 use Rattle.steps.specs.StepList.{unless0, many, each, tableSteps, rowSteps, blockSteps, blocks, blockWidth, steps}
 use Rattle.matrix.specs.Job.{meant}
-use Rattle.frames.specs.Digit.{digitOf, byteOf, nibble}
-use Rattle.frames.specs.Line.{hexOf, valueOf, undigit, unframed}
+use Rattle.hex.specs.Digit.{digitOf, byteOf, nibble}
+use Rattle.hex.specs.Line.{hexOf, valueOf, undigit, unframed}
 use Rattle.frames.specs.Header.{headerOf, sizeOf, readHeaderTests}
 use Rattle.frames.specs.RowLine.{lineLong, lineOf, wordsOf}
 use Rattle.texts.specs.MatrixText.{lineAt, misread, wordsRead, linesOf, sizeIn, wordsIn, restOf, above, headTests, matrixTests}

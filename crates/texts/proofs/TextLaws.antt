@@ -16,11 +16,11 @@ use Rattle.buffers.proofs.SizeLaws.{planes-le}
 use Rattle.buffers.proofs.BufferLaws.{length-tab, length-joined}
 use Rattle.requests.specs.Answers.{first, left, answered}
 use Rattle.requests.proofs.AnswerLaws.{here, later, refused, finished, refusal-keeps, done-makes, append-given, append-none, first-none}
-use Rattle.frames.specs.Line.{hexOf, unframed}
-use Rattle.frames.proofs.HexLaws.{framed}
+use Rattle.hex.specs.Line.{hexOf, unframed}
+use Rattle.hex.proofs.HexLaws.{framed}
 use Rattle.frames.specs.Header.{readHeaderTests, readHeaderMeans}
 use Rattle.frames.specs.RowLine.{lineLong, lineOf, wordsOf, readRowTests, readRowMeans, writeRowTests, writeRowMeans}
-use Rattle.frames.proofs.LineLaws.{hex-length}
+use Rattle.hex.proofs.LineLaws.{hex-length}
 use Rattle.texts.specs.MatrixText.{lineAt, misread, wordsRead, linesOf, sizeIn, wordsIn, restOf, above, headTests, sizeMeans, matrixTests}
 use Rattle.texts.specs.Multiply.{laid}
 use Rattle.texts.proofs.LaidLaws.{joined-laid}

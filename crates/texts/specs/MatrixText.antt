@@ -7,7 +7,7 @@ use Rattle.cells.specs.Any.{any}
 use Rattle.buffers.specs.Buffer.{wide, joined}
 use Rattle.requests.specs.declared.Size.{Size}
 use Rattle.requests.specs.Answers.{Tests, answered}
-use Rattle.frames.specs.Line.{unframed}
+use Rattle.hex.specs.Line.{unframed}
 use Rattle.frames.specs.Header.{sizeOf, readHeaderTests}
 use Rattle.frames.specs.RowLine.{lineLong, lineOf, wordsOf}
 use Rattle.requests.specs.Sizes.{exceeds}

@@ -10,7 +10,7 @@ use Rattle.requests.specs.Answers.{Tests, first}
 use Rattle.requests.specs.Faults.{pairFaults}
 use Rattle.steps.specs.Matrix.{schoolbook}
 use Rattle.matrix.specs.Job.{meant, productSize, unmatched, totalOf}
-use Rattle.frames.specs.Line.{hexOf}
+use Rattle.hex.specs.Line.{hexOf}
 use Rattle.frames.specs.Header.{headerOf}
 use Rattle.texts.specs.MatrixText.{linesOf, sizeIn, wordsIn, restOf, matrixTests}
 
@@ -38,13 +38,16 @@ unfoldable pub productText : Size → Size → List ℕ → List ℕ → List �
 productText x y a b =
     framesOf (productSize x y) (encode (x .rows) (y .columns) (schoolbook (x .columns) (cell (x .columns) a) (cell (y .columns) b))) (totalOf x (meant 0) a)
 
+-- .. of the two matrices in a text
+abbrev pub productIn : List ℕ → List ℕ
+productIn text = productText (sizeIn text) (sizeIn (restOf text)) (wordsIn text) (wordsIn (restOf text))
+
 unfoldable pub answerText : ℕ → List ℕ → List ℕ
 answerText zero text = text
 answerText (suc n) text = refusal (suc n)
 
 unfoldable pub multiplyText : List ℕ → List ℕ
-multiplyText text =
-    answerText (first (multiplyTests text)) (productText (sizeIn text) (sizeIn (restOf text)) (wordsIn text) (wordsIn (restOf text)))
+multiplyText text = answerText (first (multiplyTests text)) (productIn text)
 
 -- ---- in a buffer
 

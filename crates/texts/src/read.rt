@@ -5,7 +5,7 @@ ghost use Prim.Native.Nat.{_+_, _*_, _≤_, _<_};
 ghost use lib.ListN.{length, take, drop};
 ghost use Rattle.buffers.specs.Buffer.{wide, words};
 ghost use Rattle.requests.specs.Answers.{number, first};
-ghost use Rattle.frames.specs.Line.{unframed};
+ghost use Rattle.hex.specs.Line.{unframed};
 ghost use Rattle.frames.specs.RowLine.{lineLong, wordsOf};
 ghost use Rattle.texts.specs.MatrixText.{misread, wordsRead, above, sizeMeans, matrixTests};
 ghost use Rattle.texts.specs.Found.{Found};

@@ -10,8 +10,8 @@ ghost use Rattle.texts.specs.MatrixText.{linesOf};
 ghost use Rattle.texts.specs.Multiply.{refusal, framesOf, placed};
 use buffers::planes::planes;
 use frames::header::write_header;
-use frames::line::put;
 use frames::row_line::write_row;
+use hex::line::put;
 use requests::Size;
 
 // The word refused, a space, the number as two digits, byte 10.

@@ -4,7 +4,7 @@ use Rattle.requests.specs.Answers.{first}
 use Rattle.requests.proofs.AnswerLaws.{refused, finished}
 use Rattle.requests.specs.Sizes.{over}
 use Rattle.frames.specs.Header.{readHeaderTests, readHeaderMeans}
-use Rattle.frames.proofs.HexLaws.{framed}
+use Rattle.hex.proofs.HexLaws.{framed}
 use Rattle.frames.proofs.HeaderLaws.{header-read, header-over}
 use borrow.Author.Needs.{needs}
 use native.Mathlib.Omega.{arith}

@@ -4,7 +4,7 @@ use Rattle.requests.specs.Answers.{first}
 use Rattle.requests.proofs.AnswerLaws.{refused, finished}
 use Rattle.requests.proofs.SizeLaws.{over-rows, over-columns}
 use Rattle.frames.specs.Header.{writeHeaderTests, writeHeaderMeans}
-use Rattle.frames.proofs.LineLaws.{header-eight}
+use Rattle.frames.proofs.HeaderLaws.{header-eight}
 use borrow.Author.Needs.{needs}
 use native.Mathlib.Omega.{arith}
 use Rattle.frames.proofs.header.write_header.Statement.{statement}

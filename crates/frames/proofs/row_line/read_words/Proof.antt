@@ -1,8 +1,8 @@
 use mathlib.Core.Path.{_≡_, refl}
 use Prim.Native.Nat.{_+_, _-_, _*_, _≤_}
 use lib.ListN.{length, length-set}
-use Rattle.frames.specs.Line.{valueOf}
-use Rattle.frames.proofs.LineLaws.{Filled, filled-none, filled-next}
+use Rattle.hex.specs.Line.{valueOf}
+use Rattle.hex.proofs.LineLaws.{Filled, filled-none, filled-next}
 use Rattle.frames.proofs.RowLineLaws.{row-read}
 use native.Mathlib.Omega.{arith}
 use Rattle.frames.proofs.row_line.read_words.Statement.{statement}

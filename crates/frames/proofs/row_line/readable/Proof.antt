@@ -3,7 +3,7 @@ use borrow.Author.Tests.{eq-eqb, ne-eqb, lt-ltb, le-ltb}
 use Rattle.requests.specs.Answers.{first}
 use Rattle.buffers.specs.Buffer.{planes, wide}
 use Rattle.buffers.proofs.SizeLaws.{planes-le}
-use Rattle.frames.specs.Line.{unframed}
+use Rattle.hex.specs.Line.{unframed}
 use Rattle.frames.specs.RowLine.{readRowTests}
 use borrow.Author.Needs.{needs}
 use native.Mathlib.Omega.{arith}

@@ -1,8 +1,8 @@
 use mathlib.Core.Path.{_≡_, sym, _∙_}
 use Prim.Native.Nat.{_+_, _-_, _*_, _≤_}
 use lib.ListN.{length, length-set}
-use Rattle.frames.specs.Digit.{nibble}
-use Rattle.frames.proofs.LineLaws.{Filled, filled-none, filled-next}
+use Rattle.hex.specs.Digit.{nibble}
+use Rattle.hex.proofs.LineLaws.{Filled, filled-none, filled-next}
 use Rattle.frames.proofs.RowLineLaws.{byteAt, row-written}
 use native.Mathlib.Omega.{arith}
 use Rattle.frames.proofs.row_line.write_words.Statement.{statement}

@@ -4,7 +4,7 @@ use Prim.Native.Nat.{ℕ, _+_, _-_, _*_, _≤_}
 use mathlib.Core.List.{List, _++_}
 use lib.ListN.{length, take, drop, length-drop}
 use lib.Seq.{length-take-le}
-use Rattle.frames.specs.Line.{unframed}
+use Rattle.hex.specs.Line.{unframed}
 use Rattle.frames.specs.RowLine.{lineLong, wordsOf}
 use Rattle.buffers.specs.Buffer.{planes, wide, words, joined}
 use Rattle.buffers.proofs.SizeLaws.{planes-le, words-le, row-fits}

@@ -11,9 +11,9 @@ use lib.ListN.{length, getD}
 use borrow.Author.Tests.{lt-ltb, le-ltb, eq-eqb}
 use Rattle.cells.specs.Any.{any}
 use Rattle.cells.proofs.AnyLaws.{any-none}
-use Rattle.frames.specs.Digit.{digitOf, byteOf, nibble}
-use Rattle.frames.specs.Line.{valueOf, undigit, unframed}
-use Rattle.frames.proofs.HexLaws.{Digits}
+use Rattle.hex.specs.Digit.{digitOf, byteOf, nibble}
+use Rattle.hex.specs.Line.{valueOf, undigit, unframed}
+use Rattle.hex.proofs.HexLaws.{Digits}
 
 -- ---- one digit
 

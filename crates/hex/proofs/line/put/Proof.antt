@@ -1,12 +1,12 @@
 use mathlib.Core.Path.{_≡_, sym, ap, _∙_}
 use Prim.Native.Nat.{ℕ, suc, _-_, _+_, _≤_}
 use lib.ListN.{length, length-set}
-use Rattle.frames.specs.Digit.{byteOf, nibble}
-use Rattle.frames.specs.Line.{hexOf}
-use Rattle.frames.proofs.LineLaws.{Filled, filled-none, filled-next, filled-end, hex-length, hex-filled}
+use Rattle.hex.specs.Digit.{byteOf, nibble}
+use Rattle.hex.specs.Line.{hexOf}
+use Rattle.hex.proofs.LineLaws.{Filled, filled-none, filled-next, filled-end, hex-length, hex-filled}
 use native.Mathlib.Omega.{arith}
-use Rattle.frames.proofs.line.put.Statement.{statement}
-use Rattle.frames.proofs.line.put.Tie as tie
+use Rattle.hex.proofs.line.put.Statement.{statement}
+use Rattle.hex.proofs.line.put.Tie as tie
 
 abbrev Inv-loop : tie.InvT-loop
 Inv-loop v n line₀ k₀ line k = (k ≤ n) × (length line ≡ n + 1) × Filled (λ i. byteOf (nibble v (n - suc i))) k line

@@ -11,8 +11,8 @@ use lib.ListN.{length, getD}
 use borrow.Author.Tests.{lt-ltb, le-ltb, ltb-false, eqb-true, not-false}
 use Rattle.cells.specs.Any.{any}
 use Rattle.cells.proofs.AnyLaws.{or-left, or-right, or-yes, any-at, any-more}
-use Rattle.frames.specs.Digit.{digitOf}
-use Rattle.frames.specs.Line.{valueOf, undigit, unframed}
+use Rattle.hex.specs.Digit.{digitOf}
+use Rattle.hex.specs.Line.{valueOf, undigit, unframed}
 
 pub sixteen : (n : ℕ) → 2 ^ (4 * suc n) ≡ 16 * 2 ^ (4 * n)
 sixteen n =

@@ -6,7 +6,7 @@ use lib.Dec.{ltb, eqb}
 use lib.ListN.{length, getD}
 use Rattle.cells.specs.Any.{any}
 use Rattle.buffers.specs.Buffer.{tab}
-use Rattle.frames.specs.Digit.{digitOf, byteOf, nibble}
+use Rattle.hex.specs.Digit.{digitOf, byteOf, nibble}
 
 -- the n digits of v, the highest first
 unfoldable pub hexOf : ℕ → ℕ → List ℕ

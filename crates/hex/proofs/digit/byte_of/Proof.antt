@@ -1,8 +1,8 @@
 use borrow.Author.Tests.{lt-ltb, le-ltb}
-use Rattle.frames.specs.Digit.{byteOf}
+use Rattle.hex.specs.Digit.{byteOf}
 use borrow.Author.Needs.{needs}
-use Rattle.frames.proofs.digit.byte_of.Statement.{statement}
-use Rattle.frames.proofs.digit.byte_of.Tie as tie
+use Rattle.hex.proofs.digit.byte_of.Statement.{statement}
+use Rattle.hex.proofs.digit.byte_of.Tie as tie
 
 add-result : tie.Need-add-result
 add-result c = search needs

@@ -1,8 +1,8 @@
 use borrow.Author.Tests.{lt-ltb, le-ltb}
-use Rattle.frames.specs.Digit.{digitOf}
+use Rattle.hex.specs.Digit.{digitOf}
 use borrow.Author.Needs.{needs}
-use Rattle.frames.proofs.digit.digit_of.Statement.{statement}
-use Rattle.frames.proofs.digit.digit_of.Tie as tie
+use Rattle.hex.proofs.digit.digit_of.Statement.{statement}
+use Rattle.hex.proofs.digit.digit_of.Tie as tie
 
 returns : tie.Need-returns
 unfolding digitOf

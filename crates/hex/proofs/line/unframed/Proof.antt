@@ -1,9 +1,9 @@
 use mathlib.Core.Path.{sym, _∙_}
 use borrow.Author.Tests.{eq-eqb, ne-eqb}
-use Rattle.frames.specs.Line.{unframed}
+use Rattle.hex.specs.Line.{unframed}
 use borrow.Author.Needs.{needs}
-use Rattle.frames.proofs.line.unframed.Statement.{statement}
-use Rattle.frames.proofs.line.unframed.Tie as tie
+use Rattle.hex.proofs.line.unframed.Statement.{statement}
+use Rattle.hex.proofs.line.unframed.Tie as tie
 
 add-if1 : tie.Need-add-if1
 add-if1 c = search needs

@@ -1,17 +1,15 @@
 -- Lines that are written byte after byte. Assumes nothing.
 use mathlib.Core.Path.{_≡_, sym, _∙_}
 use mathlib.Core.List.{List, [], _∷_, _++_}
-use Prim.Native.Nat.{ℕ, suc, _+_, _-_, _*_, _≤_, _<_}
+use Prim.Native.Nat.{ℕ, suc, _+_, _-_, _<_}
 use native.Mathlib.Decide.{decLt}
 use native.Mathlib.Omega.{arith}
 use lib.ListN.{length, getD, set, length-set, length-append, List·getD-append}
 use lib.Seq.{getD-set-same, getD-set-other, getD-at, ext-getD}
-use Rattle.buffers.specs.Buffer.{tab}
 use Rattle.buffers.proofs.BufferLaws.{length-tab, getD-tab}
-use Rattle.requests.specs.declared.Size.{Size}
-use Rattle.frames.specs.Digit.{byteOf, nibble}
-use Rattle.frames.specs.Line.{hexOf}
-use Rattle.frames.specs.Header.{headerOf}
+use Rattle.hex.specs.Digit.{byteOf, nibble}
+use Rattle.hex.specs.Line.{hexOf}
+use Rattle.hex.proofs.HexLaws.{Framed}
 
 -- the first n elements are those of f
 abbrev pub Filled : (ℕ → ℕ) → ℕ → List ℕ → Type 0
@@ -48,45 +46,21 @@ pub hex-filled : (n v : ℕ) → Filled (λ k. byteOf (nibble v (n - suc k))) n 
 unfolding hexOf
 hex-filled n v i l = getD-tab n (λ k. byteOf (nibble v (n - suc k))) i l
 
--- ---- two counts of four digits are one number of eight
+-- ---- a line of n bytes and byte 10
 
-module _ (r c : ℕ) (hr : r ≤ 1024) (hc : c ≤ 1024) where
-  n0 : nibble (r * 65536 + c) 0 ≡ nibble c 0
-  unfolding nibble
-  n0 = omega arith
+pub end-length : (xs : List ℕ) (n : ℕ) → length xs ≡ n → length (xs ++ (10 ∷ [])) ≡ n + 1
+end-length xs n e = simp length-append (omega arith)
 
-  n1 : nibble (r * 65536 + c) 1 ≡ nibble c 1
-  unfolding nibble
-  n1 = omega arith
+pub end-front : (xs : List ℕ) (n : ℕ) (f : ℕ → ℕ) → length xs ≡ n → Filled f n xs → Filled f n (xs ++ (10 ∷ []))
+end-front xs n f e h k l = List·getD-append xs (10 ∷ []) 0 k (omega arith) ∙ h k l
 
-  n2 : nibble (r * 65536 + c) 2 ≡ nibble c 2
-  unfolding nibble
-  n2 = omega arith
-
-  n3 : nibble (r * 65536 + c) 3 ≡ nibble c 3
-  unfolding nibble
-  n3 = omega arith
-
-  n4 : nibble (r * 65536 + c) 4 ≡ nibble r 0
-  unfolding nibble
-  n4 = omega arith
-
-  n5 : nibble (r * 65536 + c) 5 ≡ nibble r 1
-  unfolding nibble
-  n5 = omega arith
-
-  n6 : nibble (r * 65536 + c) 6 ≡ nibble r 2
-  unfolding nibble
-  n6 = omega arith
-
-  n7 : nibble (r * 65536 + c) 7 ≡ nibble r 3
-  unfolding nibble
-  n7 = omega arith
-
-  eight : hexOf 8 (r * 65536 + c) ++ (10 ∷ []) ≡ hexOf 4 r ++ (hexOf 4 c ++ (10 ∷ []))
-  unfolding hexOf tab
-  eight = simp (n0, n1, n2, n3, n4, n5, n6, n7)
-
-pub header-eight : (s : Size) → s .rows ≤ 1024 → s .columns ≤ 1024 → hexOf 8 (s .rows * 65536 + s .columns) ++ (10 ∷ []) ≡ headerOf s
-unfolding headerOf
-header-eight s hr hc = eight (s .rows) (s .columns) hr hc
+-- two lines of one length that agree in the first n bytes and in byte 10
+pub same-line : (xs line : List ℕ) (n : ℕ) (f : ℕ → ℕ) → length xs ≡ n → Filled f n xs → Framed line n → Filled f n line → xs ++ (10 ∷ []) ≡ line
+same-line xs line n f e h F g =
+    ext-getD 0 (xs ++ (10 ∷ [])) line (end-length xs n e ∙ sym (F .long)) (λ i l. go i (omega (arith, end-length xs n e)) (decLt i n))
+  where
+    go : (i : ℕ) → i < n + 1 → Dec (i < n) → getD (xs ++ (10 ∷ [])) i 0 ≡ getD line i 0
+    go i l (yes m) = end-front xs n f e h i m ∙ sym (g i m)
+    go i l (no m) =
+        let d : i ≡ n = omega arith in
+        rw d (getD-at xs 10 [] 0 n e ∙ sym (F .end))

@@ -3,8 +3,8 @@ ghost use mathlib.Core.Path.{_≡_};
 ghost use mathlib.Core.List.{_++_, _∷_, []};
 ghost use Prim.Native.Nat.{ℕ, _+_, _≤_, _<_};
 ghost use lib.ListN.{length, getD};
-ghost use Rattle.frames.specs.Digit.{digitOf};
-ghost use Rattle.frames.specs.Line.{hexOf, valueOf, undigit, unframed};
+ghost use Rattle.hex.specs.Digit.{digitOf};
+ghost use Rattle.hex.specs.Line.{hexOf, valueOf, undigit, unframed};
 use super::digit::byte_of;
 use super::digit::digit_of;
 

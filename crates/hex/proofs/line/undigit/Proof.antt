@@ -1,12 +1,12 @@
 use mathlib.Core.Path.{_≡_, sym}
 use mathlib.Core.Bool.{false}
 use Prim.Native.Nat.{_-_, _≤_}
-use Rattle.frames.specs.Line.{undigit}
-use Rattle.frames.proofs.HexLaws.{undigit-none, undigit-next, undigit-stop}
+use Rattle.hex.specs.Line.{undigit}
+use Rattle.hex.proofs.HexLaws.{undigit-none, undigit-next, undigit-stop}
 use borrow.Author.Needs.{needs}
 use native.Mathlib.Omega.{arith}
-use Rattle.frames.proofs.line.undigit.Statement.{statement}
-use Rattle.frames.proofs.line.undigit.Tie as tie
+use Rattle.hex.proofs.line.undigit.Statement.{statement}
+use Rattle.hex.proofs.line.undigit.Tie as tie
 
 abbrev Inv-loop : tie.InvT-loop
 Inv-loop line n k₀ k = (k ≤ n) × (undigit line k ≡ false)

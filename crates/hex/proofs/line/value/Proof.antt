@@ -1,11 +1,11 @@
 use mathlib.Core.Path.{_≡_, ap, _∙_}
 use Prim.Native.Nat.{_-_, _≤_}
-use Rattle.frames.specs.Line.{valueOf}
-use Rattle.frames.proofs.HexLaws.{value-none, value-next, value-room}
+use Rattle.hex.specs.Line.{valueOf}
+use Rattle.hex.proofs.HexLaws.{value-none, value-next, value-room}
 use borrow.Author.Needs.{needs}
 use native.Mathlib.Omega.{arith}
-use Rattle.frames.proofs.line.value.Statement.{statement}
-use Rattle.frames.proofs.line.value.Tie as tie
+use Rattle.hex.proofs.line.value.Statement.{statement}
+use Rattle.hex.proofs.line.value.Tie as tie
 
 abbrev Inv-loop : tie.InvT-loop
 Inv-loop line x n v₀ k₀ v k = (k ≤ n) × (v ≡ valueOf line x k)

@@ -1,7 +1,7 @@
 // One hexadecimal digit: a byte's value, and a value's byte. Letters are small alone.
 ghost use mathlib.Core.Path.{_≡_};
 ghost use Prim.Native.Nat.{_<_};
-ghost use Rattle.frames.specs.Digit.{digitOf, byteOf};
+ghost use Rattle.hex.specs.Digit.{digitOf, byteOf};
 
 // The value of a byte, and 16 where it is no digit.
 pub fn digit_of(b: u8) -> u64
