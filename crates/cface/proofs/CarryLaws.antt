@@ -12,7 +12,8 @@ use Rattle.requests.specs.Sizes.{over, unfit}
 use Rattle.requests.specs.Faults.{faults}
 use Rattle.requests.specs.Single.{singleTests}
 use Rattle.requests.specs.Pair.{unequal, unfits, pairTests}
-use Rattle.requests.proofs.AnswerLaws.{None, first-none, append-given, later, refused, done-makes}
+use Rattle.requests.specs.Exact.{None}
+use Rattle.requests.proofs.AnswerLaws.{first-none, append-given, later, refused, done-makes}
 use Rattle.matrix.specs.Check.{checkTests, checkMeans}
 use Rattle.matrix.specs.Negation.{negationMeans}
 use Rattle.matrix.specs.Sum.{sumOf, sumMeans}

@@ -37,7 +37,8 @@ use Rattle.cface.specs.Sum.{sumFace}
 use Rattle.cface.specs.Difference.{differenceFace}
 use Rattle.cface.specs.Negation.{negationSizes, negationFaceTests, negationFace}
 use Rattle.cface.specs.Product.{productSizes, productFaceTests, productFace}
-use Rattle.cface.specs.Record.{unfitRecord, jobIn, recordOf}
+use Rattle.matrix.specs.Record.{jobIn, recordOf}
+use Rattle.cface.specs.Record.{unfitRecord}
 use Rattle.cface.specs.Open.{openSizes, openFaceTests, openFace}
 use Rattle.cface.specs.Turn.{turnSizes, turnFaceTests, turnFace}
 

@@ -14,19 +14,22 @@ use Rattle.requests.specs.declared.Answer.{Answer}
 use Rattle.requests.specs.Answers.{number, first, left}
 use Rattle.requests.specs.Sizes.{over, unfit}
 use Rattle.requests.proofs.SizeLaws.{not-unfit}
-use Rattle.requests.proofs.AnswerLaws.{None, first-none, refused}
+use Rattle.requests.specs.Exact.{None}
+use Rattle.requests.proofs.AnswerLaws.{first-none, refused}
 use Rattle.walk.proofs.CountLaws.{pow-small}
 use Rattle.matrix.specs.declared.job.Job.{Job}
-use Rattle.matrix.specs.Job.{meant, tableSize, productSize, misfit}
+use Rattle.matrix.specs.Job.{meant, tableSize, productSize}
+use Rattle.matrix.specs.Misfit.{misfit}
 use Rattle.matrix.specs.Opening.{sizeTests, wordTests, openingTests, openingMeans}
 use Rattle.matrix.specs.Product.{productMeans}
 use Rattle.matrix.specs.Turn.{sizeA, sizeB, foundTests, turnTests, turnMeans}
 use Rattle.matrix.proofs.JobLaws.{meant-le}
-use Rattle.matrix.proofs.Demand3.{product-right}
+use Rattle.matrix.proofs.Demand3.{product-end}
 use Rattle.wordbytes.specs.Bytes.{wordsIn, bytesOf}
 use Rattle.cface.specs.Limit.{above, unfitBytes, misfitBytes}
 use Rattle.cface.specs.Product.{productSizes, productFaceTests, productFace}
-use Rattle.cface.specs.Record.{unfitRecord, jobIn, recordOf}
+use Rattle.matrix.specs.Record.{jobIn, recordOf}
+use Rattle.cface.specs.Record.{unfitRecord}
 use Rattle.cface.specs.Open.{openSizes, openFaceTests, openBytes, openFace}
 use Rattle.cface.specs.Turn.{turnSizes, turnWords, turnBytes, turnFaceTests, turnFace}
 use Rattle.cface.proofs.LimitLaws.{Room, room, fit-bytes, above-rows, above-columns, fits-words, fits-in, fits-a, fits-b, fits-out, fit-a, fit-b, fit-table, fit-product}
@@ -90,7 +93,7 @@ unfolding productMeans productFace
 product-carried x y a b out u v t w t′ w′ f r z table room eu ev e says =
     let on : _≡_ {A = ℕ × (List ℕ × List ℕ)} (number r, (t′, w′)) (productMeans x y 0 (wordsIn a) (wordsIn b) t w) = rw (eu, ev) at says in
     carried {S = List ℕ × List ℕ} (λ o. bytesOf (o .1)) (openingTests x y 0 (wordsIn a) (wordsIn b) (length t) (length w)) _ (t, w) _ (t′, w′) out _ f (number r) e on
-    (product-same x y a b (length out) z (length t) (length w) table room) (λ ok _. ap bytesOf (product-right x y 0 (wordsIn a) (wordsIn b) t w r t′ w′ on ok))
+    (product-same x y a b (length out) z (length t) (length w) table room) (λ ok _. ap bytesOf (product-end x y 0 (wordsIn a) (wordsIn b) t w r t′ w′ on ok))
 
 -- ---- opening
 

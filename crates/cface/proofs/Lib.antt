@@ -5,3 +5,4 @@ pub mod Outcomes
 pub mod Refusals
 pub mod Turns
 pub mod Impostors
+pub mod Demand2

@@ -1,13 +1,14 @@
 -- For each call: a number is given exactly when its test is the first in the order that holds, and then every buffer, the record too, holds
 -- what it held; done is given exactly when no test holds, and then what is new is left. Assumes nothing.
-use mathlib.Core.Path.{_≡_, sym, _∙_}
+use mathlib.Core.Path.{_≡_}
 use mathlib.Core.List.{List}
 use Prim.Native.Nat.{ℕ}
 use lib.ListN.{length}
 use Rattle.buffers.specs.Buffer.{cell, encode}
 use Rattle.requests.specs.declared.Size.{Size}
 use Rattle.requests.specs.Faults.{faults}
-use Rattle.requests.proofs.AnswerLaws.{None, Gives, given, gives, first-none, none-first, Exact, exact}
+use Rattle.requests.specs.Exact.{Numbered, Exact}
+use Rattle.requests.proofs.AnswerLaws.{numbered, exact}
 use Rattle.steps.specs.Matrix.{schoolbook}
 use Rattle.matrix.specs.Opening.{openedOf}
 use Rattle.matrix.specs.Turn.{turnedOf}
@@ -21,18 +22,13 @@ use Rattle.cface.specs.Sum.{sumFace}
 use Rattle.cface.specs.Difference.{differenceFace}
 use Rattle.cface.specs.Negation.{negationSizes, negationFaceTests, negationFace}
 use Rattle.cface.specs.Product.{productSizes, productFaceTests, productFace}
-use Rattle.cface.specs.Record.{jobIn}
+use Rattle.matrix.specs.Record.{jobIn}
 use Rattle.cface.specs.Open.{openSizes, openFaceTests, openBytes, openFace}
 use Rattle.cface.specs.Turn.{turnSizes, turnBytes, turnFaceTests, turnFace}
 
-pub check-exact : (s : Size) (a : List ℕ) (r : ℕ) → r ≡ checkFace s a
-    → ((k : ℕ) → (k ≡ 0 → ⊥) → (r ≡ k → Gives k (checkFaceTests s a)) × (Gives k (checkFaceTests s a) → r ≡ k)) × (r ≡ 0 → None (checkFaceTests s a)) × (None (checkFaceTests s a) → r ≡ 0)
+pub check-exact : (s : Size) (a : List ℕ) (r : ℕ) → r ≡ checkFace s a → Numbered (checkFaceTests s a) r
 unfolding checkFace checkFaceTests checkSizes faults
-check-exact s a r says = (
-  λ k ne. (λ e. given (checkFaceTests s a) k ne (sym says ∙ e), λ g. says ∙ gives (checkFaceTests s a) k g),
-  λ e. first-none (checkFaceTests s a) tt (sym says ∙ e),
-  λ h. says ∙ none-first (checkFaceTests s a) h,
-)
+check-exact s a r says = numbered (checkFaceTests s a) r tt says
 
 pub sum-exact : (x y : Size) (a b out : List ℕ) (r : ℕ) (o : List ℕ) → (r, o) ≡ sumFace x y a b out
     → Exact (pairFaceTests x y a b (length out)) out (bytesOf (sumOf (x .rows) (x .columns) (wordsIn a) (wordsIn b))) r o

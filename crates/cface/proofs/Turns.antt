@@ -23,19 +23,25 @@ use Rattle.steps.specs.StepList.{steps}
 use Rattle.steps.specs.Count.{total}
 use Rattle.steps.specs.Turn.{after, made, allBudgets, Given}
 use Rattle.steps.proofs.Counts.{total-small}
+use Rattle.steps.proofs.Running.{run-digits, opening-digits}
 use Rattle.steps.proofs.Turns.{made-done, turns-from-start}
 use Rattle.matrix.specs.declared.job.Job.{Job}
 use Rattle.matrix.specs.Job.{meant, tableSize, productSize, totalOf}
 use Rattle.matrix.specs.Opening.{openedOf}
 use Rattle.matrix.specs.Turn.{sizeA, sizeB}
+use Rattle.matrix.specs.Stands.{stateAt, jobAt}
 use Rattle.matrix.proofs.JobLaws.{meant-pos, meant-le, Fitting, opening-ready}
 use Rattle.matrix.proofs.Demand3.{turn-at, end-right}
 use Rattle.wordbytes.specs.Bytes.{wordsIn, bytesOf}
 use Rattle.cface.specs.Limit.{above, unfitBytes, misfitBytes}
-use Rattle.cface.specs.Record.{unfitRecord, jobIn, recordOf}
+use Rattle.matrix.specs.Record.{jobIn, recordOf}
+use Rattle.cface.specs.Record.{unfitRecord}
 use Rattle.cface.specs.Open.{openSizes, openFaceTests, openBytes, openFace}
 use Rattle.cface.specs.Turn.{turnSizes, turnFace}
+use Rattle.cface.specs.Stands.{Held, Stands}
+use Rattle.cface.specs.JobShows.{Reached}
 use Rattle.wordbytes.proofs.ByteLaws.{words-bytes, bytes-length}
+use Rattle.wordbytes.proofs.ShowsBytesLaws.{encode-shows-bytes}
 use Rattle.cface.proofs.JobCarryLaws.{Fits, open-fits, open-same, turn-carried}
 
 -- ---- the record
@@ -75,10 +81,6 @@ encoded-length r c M = bytes-length (encode r c M) ∙ ap (λ (n : ℕ). 8 * n) 
 
 -- ---- turns
 
--- the bytes that a host holds of a job between turns: record, table and product
-abbrev pub Held : Type 0
-Held = List ℕ × (List ℕ × List ℕ)
-
 -- an accepted turn, which is handed the bytes as last left
 abbrev pub Accepted : List ℕ → List ℕ → ℕ → Held → Held → Type 0
 Accepted a b budget s s₁ = _≡_ {A = ℕ × Held} (0, s₁) (turnFace (s .0) a b (s .1 .0) (s .1 .1) budget)
@@ -98,13 +100,13 @@ module _ (x y : Size) (w : ℕ) (a b : List ℕ) (hm : x .rows ≤ 64) (hl : x .
   long = total (x .rows) (x .columns) (meant w) (cell (x .columns) (wordsIn a))
 
   abbrev pub at : ℕ → State
-  at d = after (cell (y .columns) (wordsIn b)) (steps (x .rows) (x .columns) (meant w) (cell (x .columns) (wordsIn a))) opening d
+  at d = stateAt x y (meant w) (wordsIn a) (wordsIn b) d
 
-  abbrev pub jobAt : ℕ → Job
-  jobAt d = record { m = x .rows; l = x .columns; n = y .columns; width = meant w; done = d }
+  abbrev pub jobOf : ℕ → Job
+  jobOf d = jobAt x y (meant w) d
 
   abbrev pub recordAt : ℕ → ℕ → Bool → List ℕ
-  recordAt d made ended = bytesOf (recordOf (jobAt d) made ended)
+  recordAt d made ended = bytesOf (recordOf (jobOf d) made ended)
 
   abbrev pub tableAt : ℕ → List ℕ
   tableAt d = bytesOf (encode (2 ^ meant w) (y .columns) (at d .table))
@@ -122,23 +124,23 @@ module _ (x y : Size) (w : ℕ) (a b : List ℕ) (hm : x .rows ≤ 64) (hl : x .
   abbrev next : ℕ → ℕ → ℕ
   next d budget = min (d + budget) long
 
-  words-at : (d made : ℕ) (ended : Bool) → d ≤ long → made < 2 ^ 64 → wordsIn (recordAt d made ended) ≡ recordOf (jobAt d) made ended
+  words-at : (d made : ℕ) (ended : Bool) → d ≤ long → made < 2 ^ 64 → wordsIn (recordAt d made ended) ≡ recordOf (jobOf d) made ended
   words-at d made ended h small-made =
-      words-bytes _ (record-words (jobAt d) made ended (omega arith) (omega arith) (omega arith) (omega (arith, meant-le w hw)) (omega (arith, long-small)) small-made)
+      words-bytes _ (record-words (jobOf d) made ended (omega arith) (omega arith) (omega arith) (omega (arith, meant-le w hw)) (omega (arith, long-small)) small-made)
 
-  no-size : (d made : ℕ) (ended : Bool) → first (turnSizes (jobAt d) (length (recordAt d made ended)) (length a) (length b) (length (tableAt d)) (length (productAt d))) ≡ 0
+  no-size : (d made : ℕ) (ended : Bool) → first (turnSizes (jobOf d) (length (recordAt d made ended)) (length a) (length b) (length (tableAt d)) (length (productAt d))) ≡ 0
   unfolding turnSizes unfitRecord misfitBytes recordOf
   no-size d made ended =
       none-first _ (
-        rw (eq-eqb (length (recordAt d made ended)) (8 * 7) (bytes-length (recordOf (jobAt d) made ended))),
+        rw (eq-eqb (length (recordAt d made ended)) (8 * 7) (bytes-length (recordOf (jobOf d) made ended))),
         (
-          rw (not-over (sizeA (jobAt d)) im il) (not-over (sizeB (jobAt d)) il jn),
+          rw (not-over (sizeA (jobOf d)) im il) (not-over (sizeB (jobOf d)) il jn),
           (
-            rw (within (sizeA (jobAt d)) hm hl) (within (sizeB (jobAt d)) hl hn),
+            rw (within (sizeA (jobOf d)) hm hl) (within (sizeB (jobOf d)) hl hn),
             (
               rw (ne-eqb (meant w) 0 (λ e. omega (arith, meant-pos w))) (le-ltb 8 (meant w) (meant-le w hw)),
               (
-                rw (fits (sizeA (jobAt d)) (length a) la, fits (sizeB (jobAt d)) (length b) lb, fits (tableSize y (meant w)) (length (tableAt d)) (encoded-length (2 ^ meant w) (y .columns) _))
+                rw (fits (sizeA (jobOf d)) (length a) la, fits (sizeB (jobOf d)) (length b) lb, fits (tableSize y (meant w)) (length (tableAt d)) (encoded-length (2 ^ meant w) (y .columns) _))
                     (fits (productSize x y) (length (productAt d)) (encoded-length (x .rows) (y .columns) _)),
                 tt,
               ),
@@ -183,35 +185,30 @@ module _ (x y : Size) (w : ℕ) (a b : List ℕ) (hm : x .rows ≤ 64) (hl : x .
       ≡ (0, (recordAt (next d budget) (makes d budget) (eqb (next d budget) long), (tableAt (next d budget), productAt (next d budget))))
   unfolding left
   turn-stands d budget made ended h small-made =
-      sym (turn-carried (jobAt d) (recordAt d made ended) a b (tableAt d) (productAt d) (wordsIn a) (wordsIn b) (encode (2 ^ meant w) (y .columns) (at d .table)) (encode (x .rows) (y .columns) (at d .product)) _ _ budget _ _ _ 0 0
-      (sym (ap jobIn (words-at d made ended h small-made) ∙ job-read (jobAt d) made ended)) (no-size d made ended) refl refl (sym (words-bytes _ (encode-words (2 ^ meant w) (y .columns) _))) (sym (words-bytes _ (encode-words (x .rows) (y .columns) _))) refl
+      sym (turn-carried (jobOf d) (recordAt d made ended) a b (tableAt d) (productAt d) (wordsIn a) (wordsIn b) (encode (2 ^ meant w) (y .columns) (at d .table)) (encode (x .rows) (y .columns) (at d .product)) _ _ budget _ _ _ 0 0
+      (sym (ap jobIn (words-at d made ended h small-made) ∙ job-read (jobOf d) made ended)) (no-size d made ended) refl refl (sym (words-bytes _ (encode-words (2 ^ meant w) (y .columns) _))) (sym (words-bytes _ (encode-words (x .rows) (y .columns) _))) refl
       (sym (turn-at x y w (wordsIn a) (wordsIn b) im il jn hw LA LB d budget h)))
 
-  -- a job that stands at d: the first five words of the record are its own
-  pub record Stands (d : ℕ) (job t p : List ℕ) : Type 0 where
-    pub made : ℕ
-    pub ended : Bool
-    pub made-fits : made < 2 ^ 64
-    pub record-is : job ≡ recordAt d made ended
-    pub table-is : t ≡ tableAt d
-    pub product-is : p ≡ productAt d
+  -- a job of these matrices that stands at d
+  abbrev pub At : ℕ → List ℕ → List ℕ → List ℕ → Type 0
+  At = Stands x y (meant w) a b
 
   Outcome : Type 0
   Outcome = ℕ × (List ℕ × (List ℕ × List ℕ))
 
-  meaning : (d budget : ℕ) (job t p : List ℕ) (S : Stands d job t p) → turnFace job a b t p budget ≡ turnFace (recordAt d (S .made) (S .ended)) a b (tableAt d) (productAt d) budget
+  meaning : (d budget : ℕ) (job t p : List ℕ) (S : At d job t p) → turnFace job a b t p budget ≡ turnFace (recordAt d (S .made) (S .ended)) a b (tableAt d) (productAt d) budget
   meaning d budget job t p S = rw (S .record-is, S .table-is, S .product-is)
 
-  next-stands : (d budget : ℕ) (job t p : List ℕ) → d ≤ long → Stands d job t p
+  next-stands : (d budget : ℕ) (job t p : List ℕ) → d ≤ long → At d job t p
       → turnFace job a b t p budget ≡ (0, (recordAt (next d budget) (makes d budget) (eqb (next d budget) long), (tableAt (next d budget), productAt (next d budget))))
   next-stands d budget job t p h S = meaning d budget job t p S ∙ turn-stands d budget (S .made) (S .ended) h (S .made-fits)
 
-  pub accepted : (d budget : ℕ) (job t p : List ℕ) → d ≤ long → Stands d job t p → turnFace job a b t p budget .0 ≡ 0
+  pub accepted : (d budget : ℕ) (job t p : List ℕ) → d ≤ long → At d job t p → turnFace job a b t p budget .0 ≡ 0
   unfolding Outcome
   accepted d budget job t p h S = ap (λ (o : Outcome). o .0) (next-stands d budget job t p h S)
 
   abbrev Stand : ℕ → Held → Type 0
-  Stand d s = Stands d (s .0) (s .1 .0) (s .1 .1)
+  Stand d s = At d (s .0) (s .1 .0) (s .1 .1)
 
   one-turn : (d budget : ℕ) (s s₁ : Held) → d ≤ long → Stand d s → Accepted a b budget s s₁ → Stand (next d budget) s₁
   unfolding Outcome made total
@@ -228,6 +225,18 @@ module _ (x y : Size) (w : ℕ) (a b : List ℕ) (hm : x .rows ≤ 64) (hl : x .
 
   pub turns-stand : (budgets : List ℕ) (s s₁ : Held) → Stand 0 s → Given (Accepted a b) s budgets s₁ → Stand (min (allBudgets budgets) long) s₁
   turns-stand = turns-from-start (Accepted a b) Stand long one-turn
+
+  -- in demand 2's words: the record's first five words, and the digits of table and product
+  pub stands-reached : (d : ℕ) (job t p : List ℕ) → d ≤ long → At d job t p → Reached x y (meant w) a b d (job, (t, p))
+  unfolding after recordOf
+  stands-reached d job t p h S =
+      let digits = run-digits (cell (y .columns) (wordsIn b)) _ opening opening-digits in
+      record {
+        long = ap length (S .record-is) ∙ bytes-length (recordOf (jobOf d) (S .made) (S .ended));
+        words = ap (λ (bs : List ℕ). jobIn (wordsIn bs)) (S .record-is) ∙ ap jobIn (words-at d (S .made) (S .ended) h (S .made-fits)) ∙ job-read (jobOf d) (S .made) (S .ended);
+        table = rw (S .table-is) (encode-shows-bytes (2 ^ meant w) (y .columns) _ (λ i j _ _. digits .table i j));
+        product = rw (S .product-is) (encode-shows-bytes (x .rows) (y .columns) _ (λ i j _ _. digits .product i j));
+      }
 
   -- the end: the schoolbook product, for every width
   pub end-stands : (d : ℕ) → long ≤ d → productAt d ≡ bytesOf (encode (x .rows) (y .columns) (schoolbook (x .columns) (cell (x .columns) (wordsIn a)) (cell (y .columns) (wordsIn b))))
@@ -254,9 +263,9 @@ module _ (x y : Size) (w : ℕ) (job a b t p job₀ t₀ p₀ : List ℕ) (opene
       (open-same x y w (length job) a b (length t) (length p) sizes (length t / 8) (length p / 8) (F .table) (F .product) ∙ as-new .0)
 
   abbrev Standing : ℕ → List ℕ → List ℕ → List ℕ → Type 0
-  Standing = Stands x y w a b (F .m) (F .l) (F .n) (F .narrow) (F .bytes-a) (F .bytes-b) (facts .left) (facts .right)
+  Standing = Stands x y (meant w) a b
 
-  started : Standing 0 job₀ t₀ p₀
+  pub started : Standing 0 job₀ t₀ p₀
   unfolding after run opening
   started = record {
     made = 0;
@@ -266,6 +275,17 @@ module _ (x y : Size) (w : ℕ) (job a b t p job₀ t₀ p₀ : List ℕ) (opene
     table-is = ap (λ (o : List ℕ × (List ℕ × List ℕ)). o .1 .0) (as-new .1);
     product-is = ap (λ (o : List ℕ × (List ℕ × List ℕ)). o .1 .1) (as-new .1);
   }
+
+  -- a turn of a job that stands at d: it is done, and the job stands as far on as the budget and the length allow
+  pub turn-goes-on : (d budget n : ℕ) (s s₁ : Held) → d ≤ totalOf x (meant w) (wordsIn a) → Standing d (s .0) (s .1 .0) (s .1 .1) → (n, s₁) ≡ turnFace (s .0) a b (s .1 .0) (s .1 .1) budget
+      → (n ≡ 0) × Standing (min (d + budget) (totalOf x (meant w) (wordsIn a))) (s₁ .0) (s₁ .1 .0) (s₁ .1 .1)
+  turn-goes-on d budget n s s₁ h S says =
+      let z : n ≡ 0 = ap (λ (o : ℕ × Held). o .0) says ∙ accepted x y w a b (F .m) (F .l) (F .n) (F .narrow) (F .bytes-a) (F .bytes-b) (facts .left) (facts .right) d budget (s .0) (s .1 .0) (s .1 .1) h S in
+      (z, one-turn x y w a b (F .m) (F .l) (F .n) (F .narrow) (F .bytes-a) (F .bytes-b) (facts .left) (facts .right) d budget s s₁ h S (rw z at says))
+
+  -- what a host sees of a job that stands at d
+  pub seen-standing : (d : ℕ) (job₁ t₁ p₁ : List ℕ) → d ≤ totalOf x (meant w) (wordsIn a) → Standing d job₁ t₁ p₁ → Reached x y (meant w) a b d (job₁, (t₁, p₁))
+  seen-standing = stands-reached x y w a b (F .m) (F .l) (F .n) (F .narrow) (F .bytes-a) (F .bytes-b) (facts .left) (facts .right)
 
   module _ (budgets : List ℕ) (job₁ t₁ p₁ : List ℕ) (given : Given (Accepted a b) (job₀, (t₀, p₀)) budgets (job₁, (t₁, p₁))) where
     abbrev reached : ℕ
@@ -300,3 +320,27 @@ module _ (x y : Size) (w : ℕ) (job a b t p job₀ t₀ p₀ : List ℕ) (opene
         rw (made-done (steps (x .rows) (x .columns) (meant w) (cell (x .columns) (wordsIn a))) reached budget (omega arith))
         (ap (λ (o : ℕ × (List ℕ × (List ℕ × List ℕ))). o .1 .0)
         (next-stands x y w a b (F .m) (F .l) (F .n) (F .narrow) (F .bytes-a) (F .bytes-b) (facts .left) (facts .right) reached budget job₁ t₁ p₁ (omega arith) demand-3))
+
+-- ---- two jobs in turns
+
+-- p is the product of a job that was opened at some width and given accepted turns, until its budgets reached the list's length
+pub record Ended (x y : Size) (a b p : List ℕ) : Type 0 where
+  pub width : ℕ
+  pub job : List ℕ
+  pub table : List ℕ
+  pub product : List ℕ
+  pub held : Held
+  pub opened : _≡_ {A = ℕ × Held} (0, held) (openFace x y width job a b table product)
+  pub budgets : List ℕ
+  pub last : List ℕ
+  pub last-table : List ℕ
+  pub given : Given (Accepted a b) held budgets (last, (last-table, p))
+  pub reached : totalOf x (meant width) (wordsIn a) ≤ allBudgets budgets
+
+ended-right : (x y : Size) (a b p : List ℕ) → Ended x y a b p → p ≡ bytesOf (encode (x .rows) (y .columns) (schoolbook (x .columns) (cell (x .columns) (wordsIn a)) (cell (y .columns) (wordsIn b))))
+ended-right x y a b p E =
+    demand-3-end x y (E .width) (E .job) a b (E .table) (E .product) (E .held .0) (E .held .1 .0) (E .held .1 .1) (E .opened) (E .budgets) (E .last) (E .last-table) p (E .given) (E .reached)
+
+-- their products are equal, whatever the widths and the budgets
+pub jobs-agree : (x y : Size) (a b p p′ : List ℕ) → Ended x y a b p → Ended x y a b p′ → p ≡ p′
+jobs-agree x y a b p p′ E E′ = ended-right x y a b p E ∙ sym (ended-right x y a b p′ E′)

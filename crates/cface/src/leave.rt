@@ -5,7 +5,7 @@ ghost use Prim.Native.Nat.{ℕ, _*_};
 ghost use lib.ListN.{length};
 ghost use Rattle.requests.specs.Answers.{left};
 ghost use Rattle.wordbytes.specs.Bytes.{bytesOf};
-ghost use Rattle.cface.specs.Record.{recordOf};
+ghost use Rattle.matrix.specs.Record.{recordOf};
 use super::record::put_record;
 use matrix::job::Job;
 use wordbytes::bytes::bytes_of;

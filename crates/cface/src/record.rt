@@ -2,7 +2,7 @@
 ghost use mathlib.Core.Path.{_≡_};
 ghost use lib.ListN.{length};
 ghost use Rattle.wordbytes.specs.Bytes.{wordsIn, bytesOf};
-ghost use Rattle.cface.specs.Record.{jobIn, recordOf};
+ghost use Rattle.matrix.specs.Record.{jobIn, recordOf};
 use matrix::job::Job;
 use wordbytes::bytes::bytes_of;
 use wordbytes::bytes::word;

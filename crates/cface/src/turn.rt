@@ -4,7 +4,7 @@ ghost use Prim.Native.Nat.{_*_};
 ghost use lib.ListN.{length};
 ghost use Rattle.requests.specs.Answers.{number, first};
 ghost use Rattle.wordbytes.specs.Bytes.{wordsIn};
-ghost use Rattle.cface.specs.Record.{jobIn};
+ghost use Rattle.matrix.specs.Record.{jobIn};
 ghost use Rattle.cface.specs.Turn.{turnSizes, turnFace};
 use super::leave::leave_job;
 use super::limit::either_above;

@@ -1,4 +1,4 @@
-use Rattle.cface.specs.Record.{jobIn}
+use Rattle.matrix.specs.Record.{jobIn}
 use Rattle.wordbytes.proofs.ByteLaws.{word-at}
 use borrow.Author.Needs.{needs}
 use native.Mathlib.Omega.{arith}

@@ -1,14 +1,8 @@
-use mathlib.Core.Path.{_≡_, refl}
-use mathlib.Core.Bool.{Bool, true, false, cond}
-use mir.Val.{boolByte}
-use Rattle.cface.specs.Record.{recordOf}
+use Rattle.requests.proofs.AnswerLaws.{flag}
+use Rattle.matrix.specs.Record.{recordOf}
 use borrow.Author.Needs.{needs}
 use Rattle.cface.proofs.record.put_record.Statement.{statement}
 use Rattle.cface.proofs.record.put_record.Tie as tie
-
-as-number : (t : Bool) → boolByte t ≡ cond t 1 0
-as-number true = refl
-as-number false = refl
 
 cast-t6 : tie.Need-cast-t6
 cast-t6 c = search needs
@@ -24,7 +18,7 @@ same-length c = search needs
 
 returns : tie.Need-returns
 unfolding recordOf
-returns c = rw (as-number (c .before .before .before .before .before .before .args .ended)) at (c .before .before .bytes-of .ensures)
+returns c = rw (flag (c .before .before .before .before .before .before .args .ended)) at (c .before .before .bytes-of .ensures)
 
 pub put-record-spec : {M : Type 1} → statement M
 put-record-spec = tie.close (tie.spec cast-t6 slice-aggregate-bytes-of bytes-of-requires same-length returns)

@@ -1,0 +1,114 @@
+-- Demand 2 in bytes: what is done is right. Each result is of the exact length, its words are legal and hold the digits that they are to hold,
+-- and no other bytes do; the record's words are those of the new job. Assumes nothing.
+use mathlib.Core.Path.{_≡_}
+use mathlib.Core.Bool.{false}
+use mathlib.Core.List.{List}
+use Prim.Native.Nat.{ℕ, _+_, _*_, _%_, _^_, _≤_}
+use native.Mathlib.Omega.{arith}
+use lib.Dec.{ltb, eqb}
+use lib.ListN.{length}
+use borrow.Author.Tests.{ltb-false}
+use Rattle.cells.specs.Digit.{add3, sub3, neg3}
+use Rattle.cells.proofs.AnyLaws.{or-left, or-right}
+use Rattle.buffers.specs.Buffer.{cell}
+use Rattle.buffers.proofs.SizeLaws.{cell-lt}
+use Rattle.requests.specs.declared.Size.{Size}
+use Rattle.requests.specs.Exact.{None}
+use Rattle.requests.specs.Faults.{faults}
+use Rattle.steps.specs.Matrix.{schoolbook}
+use Rattle.steps.specs.Count.{total}
+use Rattle.steps.specs.Turn.{made, turn}
+use Rattle.steps.proofs.Running.{run-digits}
+use Rattle.walk.specs.Ran.{found}
+use Rattle.matrix.specs.declared.job.Job.{Job}
+use Rattle.matrix.specs.Job.{meant, totalOf}
+use Rattle.matrix.specs.Sum.{sumOf}
+use Rattle.matrix.specs.Difference.{differenceOf}
+use Rattle.matrix.specs.Negation.{negationOf}
+use Rattle.matrix.specs.Opening.{newJob}
+use Rattle.matrix.specs.Turn.{sizeA, sizeB, leftOf, madeOf, onJob, turnedOf}
+use Rattle.matrix.proofs.FieldLaws.{add-lt, sub-lt, neg-lt}
+use Rattle.matrix.proofs.JobLaws.{meant-le}
+use Rattle.wordbytes.specs.Bytes.{wordsIn}
+use Rattle.wordbytes.specs.ShowsBytes.{ShowsBytes}
+use Rattle.wordbytes.proofs.ByteLaws.{words-bytes, bytes-length}
+use Rattle.wordbytes.proofs.ShowsBytesLaws.{encode-shows-bytes}
+use Rattle.cface.specs.Limit.{above}
+use Rattle.cface.specs.Sum.{sumFace}
+use Rattle.cface.specs.Difference.{differenceFace}
+use Rattle.cface.specs.Negation.{negationFace}
+use Rattle.cface.specs.Product.{productFace}
+use Rattle.matrix.specs.Record.{recordOf}
+use Rattle.cface.specs.Open.{openSizes, openFaceTests, openFace}
+use Rattle.cface.specs.Turn.{turnSizes, turnFaceTests, turnFace}
+use Rattle.cface.specs.Stands.{Held}
+use Rattle.cface.specs.JobShows.{Opened, foundIn, Turned}
+use Rattle.cface.proofs.LimitLaws.{above-rows, above-columns}
+use Rattle.cface.proofs.Refusals.{sum-exact, difference-exact, negation-exact, product-exact, open-exact, turn-exact}
+use Rattle.cface.proofs.Turns.{record-words}
+
+module _ (x y : Size) (a b out : List ℕ) (r : ℕ) (o : List ℕ) where
+  abbrev c : ℕ
+  c = x .columns
+
+  pub sum-right : (r, o) ≡ sumFace x y a b out → r ≡ 0 → ShowsBytes (x .rows) c (λ i j. (cell c (wordsIn a) i j + cell c (wordsIn b) i j) % 3) o
+  unfolding sumOf add3
+  sum-right says z =
+      rw (sum-exact x y a b out r o says .right z) (encode-shows-bytes (x .rows) c (λ i j. add3 (cell c (wordsIn a) i j) (cell c (wordsIn b) i j)) (λ i j h l. add-lt (cell c (wordsIn a) i j) (cell c (wordsIn b) i j)))
+
+  -- 2 is -1
+  pub difference-right : (r, o) ≡ differenceFace x y a b out → r ≡ 0 → ShowsBytes (x .rows) c (λ i j. (cell c (wordsIn a) i j + 2 * cell c (wordsIn b) i j) % 3) o
+  unfolding differenceOf sub3
+  difference-right says z =
+      rw (difference-exact x y a b out r o says .right z) (encode-shows-bytes (x .rows) c (λ i j. sub3 (cell c (wordsIn a) i j) (cell c (wordsIn b) i j)) (λ i j h l. sub-lt (cell c (wordsIn a) i j) (cell c (wordsIn b) i j)))
+
+  pub product-right : (r, o) ≡ productFace x y a b out → r ≡ 0 → ShowsBytes (x .rows) (y .columns) (schoolbook c (cell c (wordsIn a)) (cell (y .columns) (wordsIn b))) o
+  unfolding schoolbook
+  product-right says z = rw (product-exact x y a b out r o says .right z) (encode-shows-bytes (x .rows) (y .columns) _ (λ i j h l. omega arith))
+
+pub negation-right : (s : Size) (a out : List ℕ) (r : ℕ) (o : List ℕ) → (r, o) ≡ negationFace s a out → r ≡ 0 → ShowsBytes (s .rows) (s .columns) (λ i j. 2 * cell (s .columns) (wordsIn a) i j % 3) o
+unfolding negationOf neg3
+negation-right s a out r o says z =
+    rw (negation-exact s a out r o says .right z) (encode-shows-bytes (s .rows) (s .columns) (λ i j. neg3 (cell (s .columns) (wordsIn a) i j)) (λ i j h l. neg-lt (cell (s .columns) (wordsIn a) i j)))
+
+-- ---- jobs
+
+-- the record, and zero in table and product
+pub open-right : (x y : Size) (w : ℕ) (job a b t p : List ℕ) (r : ℕ) (o : Held) → (r, o) ≡ openFace x y w job a b t p → r ≡ 0 → Opened x y w o
+unfolding openFaceTests openSizes recordOf
+open-right x y w job a b t p r o says z =
+    let E = open-exact x y w job a b t p r o says in
+    let none : None (openFaceTests x y w (length job) a b (length t) (length p)) = E .numbered .done .0 z in
+    let hx = or-left (above x) (above y) (none .1 .1 .0) in
+    let hy = or-right (above x) (above y) (none .1 .1 .0) in
+    let hw : w ≤ 8 = ltb-false 8 w (none .1 .1 .1 .1 .0) in
+    rw (E .right z) (record {
+      long = bytes-length (recordOf (newJob x y w) 0 false);
+      words = words-bytes _ (record-words (newJob x y w) 0 false (omega (arith, above-rows x hx)) (omega (arith, above-columns x hx)) (omega (arith, above-columns y hy)) (omega (arith, meant-le w hw)) (omega arith) (omega arith));
+      table = encode-shows-bytes (2 ^ meant w) (y .columns) (λ i j. 0) (λ i j _ _. omega arith);
+      product = encode-shows-bytes (x .rows) (y .columns) (λ i j. 0) (λ i j _ _. omega arith);
+    })
+
+-- the next steps of the list, on the contents as found
+pub turn-right : (job a b t p : List ℕ) (budget r : ℕ) (o : Held) → (r, o) ≡ turnFace job a b t p budget → r ≡ 0 → Turned job a b t p budget o
+unfolding turnFaceTests turnSizes faults turnedOf turn found made total recordOf
+turn-right job a b t p budget r o says z =
+    let E = turn-exact job a b t p budget r o says in
+    let none : None (turnFaceTests job a b t p) = E .numbered .done .0 z in
+    let J : Job = foundIn job in
+    let A : List ℕ = wordsIn a in
+    let hx = or-left (above (sizeA J)) (above (sizeB J)) (none .1 .1 .0) in
+    let hy = or-right (above (sizeA J)) (above (sizeB J)) (none .1 .1 .0) in
+    let hw : J .width ≤ 8 = ltb-false 8 (J .width) (or-right (eqb (J .width) 0) (ltb 8 (J .width)) (none .1 .1 .1 .0)) in
+    let late = none .1 .1 .1 .1 .1 .1 .1 .1 .1 .1 .1 .1 .1 in
+    let few : totalOf (sizeA J) (J .width) A ≤ 4294967295 = ltb-false _ _ (late .0) in
+    let past : J .done ≤ totalOf (sizeA J) (J .width) A = ltb-false _ _ (late .1 .0) in
+    let next : Job = onJob J (leftOf J A (wordsIn b) (wordsIn t) (wordsIn p) budget .done) in
+    let fits = record-words next (madeOf J A budget) (eqb (next .done) (totalOf (sizeA J) (J .width) A)) (omega (arith, above-rows (sizeA J) hx)) (omega (arith, above-columns (sizeA J) hx)) (omega (arith, above-columns (sizeB J) hy)) (omega arith) (omega arith) (omega arith) in
+    let digits = run-digits (cell (J .n) (wordsIn b)) _ (found (J .n) (wordsIn t) (wordsIn p)) (record { table = λ i j. cell-lt (J .n) (wordsIn t) i j; product = λ i j. cell-lt (J .n) (wordsIn p) i j }) in
+    rw (E .right z) (record {
+      long = bytes-length (recordOf next (madeOf J A budget) (eqb (next .done) (totalOf (sizeA J) (J .width) A)));
+      words = words-bytes _ fits;
+      table = encode-shows-bytes (2 ^ J .width) (J .n) _ (λ i j _ _. digits .table i j);
+      product = encode-shows-bytes (J .m) (J .n) _ (λ i j _ _. digits .product i j);
+    })
