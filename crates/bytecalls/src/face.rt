@@ -1,0 +1,9 @@
+// The calls of the C face.
+pub mod check;
+pub mod difference;
+pub mod negation;
+pub mod open;
+pub mod product;
+pub mod sum;
+pub mod turn;
+pub mod turns;

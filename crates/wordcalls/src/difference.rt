@@ -1,0 +1,32 @@
+// What a host sees after a difference; 2 is -1.
+ghost use Prim.Native.Nat.{_+_, _*_, _%_};
+ghost use lib.ListN.{length};
+ghost use Rattle.buffers.specs.Buffer.{cell};
+ghost use Rattle.buffers.specs.Shows.{Shows};
+ghost use Rattle.requests.specs.Exact.{Seen};
+ghost use Rattle.requests.specs.Pair.{pairTests};
+use requests::Size;
+use requests::number;
+
+#[no_mangle]
+pub extern "C" fn call_difference(
+    a_rows: u64,
+    a_columns: u64,
+    b_rows: u64,
+    b_columns: u64,
+    a: &[u64],
+    b: &[u64],
+    out: &mut [u64],
+) -> u64
+    ensures { λ r. ⌜ Seen (pairTests (record { rows = «a_rows»; columns = «a_columns» }) (record { rows = «b_rows»; columns = «b_columns» }) (now (a .entry)) (now (b .entry)) (length (now (out .entry)))) (now (out .entry)) (Shows «a_rows» «a_columns» (λ i j. (cell «a_columns» (now (a .entry)) i j + 2 * cell «a_columns» (now (b .entry)) i j) % 3)) r (now (out .exit)) ⌝ }
+{
+    let x = Size {
+        rows: a_rows,
+        columns: a_columns,
+    };
+    let y = Size {
+        rows: b_rows,
+        columns: b_columns,
+    };
+    number(matrix::difference::difference(x, y, a, b, out))
+}
