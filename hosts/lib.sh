@@ -42,9 +42,10 @@ native_rustc() {
     need rustc gcc libc6-dev && command -v rustc
 }
 
-# ---- hosts that link the archive of the C face, which is for x86-64
+# ---- hosts that link an archive, which is for x86-64: that of the C face, or that of the library's requests over words
 # Programs are cross-built on another machine and run under Debian's emulator.
 archive=${NYUZOLAMBA_ARCHIVE:-$root/target/staticlib/libcface.a}
+word_archive=${NYUZOLAMBA_WORDCALLS:-$root/target/staticlib/libwordcalls.a}
 
 # Sets cc and host_runner (words before a host program), and installs what they need.
 c_host() {
@@ -77,11 +78,10 @@ compile_c() { # FLAGS NAME SOURCE..
     $cc -std=c99 -O2 -g -Wall -Wextra -pedantic -Werror $more -I "$root/include" -o "$out/$name" "$@" "$archive"
 }
 
-# build_rust NAME SOURCE: a Rust host with the archive.
+# build_rust NAME SOURCE [ARCHIVE]: a Rust host with an archive; without a name, that of the C face.
 build_rust() {
-    local flags folder
-    folder=$out/link
-    mkdir -p "$folder" && cp "$archive" "$folder/libnyuzolamba.a" || return 1
+    local folder=$out/link/$1
+    mkdir -p "$folder" && cp "${3:-$archive}" "$folder/libnyuzolamba.a" || return 1
     if [ "$machine" = x86_64 ]; then
         local rustc
         rustc=$(native_rustc) || return 1
@@ -97,12 +97,18 @@ build_rust() {
 # up_to_date FILE: it is there, and no source of the crates is newer.
 up_to_date() { [ -f "$1" ] && [ -z "$(find "$root/crates" -name '*.rt' -newer "$1" -print -quit)" ]; }
 
-# Proves the C face and makes its archive, unless NYUZOLAMBA_ARCHIVE names one.
-make_archive() {
-    [ -n "${NYUZOLAMBA_ARCHIVE:-}" ] && return 0
-    (cd "$root" && rt staticlib cface) >"$out/staticlib.log" 2>&1 || { tail -n 20 "$out/staticlib.log" >&2; return 1; }
+# staticlib CRATE: proves a crate and makes its archive.
+staticlib() {
+    (cd "$root" && rt staticlib "$1") >"$out/staticlib-$1.log" 2>&1 || { tail -n 20 "$out/staticlib-$1.log" >&2; return 1; }
 }
+
+# The archive of the C face, unless NYUZOLAMBA_ARCHIVE names one.
+make_archive() { [ -n "${NYUZOLAMBA_ARCHIVE:-}" ] || staticlib cface; }
 have_archive() { up_to_date "$archive" || make_archive; }
+
+# That of the requests over words, unless NYUZOLAMBA_WORDCALLS names one.
+make_word_archive() { [ -n "${NYUZOLAMBA_WORDCALLS:-}" ] || staticlib wordcalls; }
+have_word_archive() { up_to_date "$word_archive" || make_word_archive; }
 
 # Proves the program multiply and makes it, unless NYUZOLAMBA_PROGRAM names one (with the words before it).
 make_program() {

@@ -78,6 +78,15 @@ static void take_up(struct job *job, struct ledger *ledger, const char *folder, 
         fail("site %llu: file and ledger do not agree", (unsigned long long)site);
 }
 
+/* Without a site there is nothing to be right about. */
+static uint64_t site_count(const char *text)
+{
+    uint64_t sites = number(text);
+    if (sites == 0)
+        fail("no sites, nothing is compared");
+    return sites;
+}
+
 static int run(const char *folder, uint64_t sites, uint64_t seed, uint64_t most)
 {
     struct ledger ledger;
@@ -150,9 +159,9 @@ static int audit(const char *folder, uint64_t sites, uint64_t seed)
 int main(int count, char **words)
 {
     if (count == 6 && strcmp(words[1], "run") == 0)
-        return run(words[2], number(words[3]), number(words[4]), number(words[5]));
+        return run(words[2], site_count(words[3]), number(words[4]), number(words[5]));
     if (count == 5 && strcmp(words[1], "audit") == 0)
-        return audit(words[2], number(words[3]), number(words[4]));
+        return audit(words[2], site_count(words[3]), number(words[4]));
     fputs("usage: store run FOLDER SITES SEED MOST | store audit FOLDER SITES SEED\n", stderr);
     return 2;
 }

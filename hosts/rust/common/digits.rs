@@ -40,6 +40,14 @@ impl Digits {
         self.cells[i * self.columns + j]
     }
 
+    pub fn row(&self, i: usize) -> &[u8] {
+        &self.cells[i * self.columns..(i + 1) * self.columns]
+    }
+
+    pub fn row_mut(&mut self, i: usize) -> &mut [u8] {
+        &mut self.cells[i * self.columns..(i + 1) * self.columns]
+    }
+
     /// The only legal buffer that holds these digits.
     pub fn words(&self) -> Vec<u64> {
         let q = words_of_plane(self.columns);
@@ -47,12 +55,8 @@ impl Digits {
         for i in 0..self.rows {
             for j in 0..self.columns {
                 let digit = self.at(i, j);
-                if digit != 0 {
-                    words[i * 2 * q + j / 64] |= 1 << (j % 64);
-                }
-                if digit == 2 {
-                    words[i * 2 * q + q + j / 64] |= 1 << (j % 64);
-                }
+                words[i * 2 * q + j / 64] |= u64::from(digit != 0) << (j % 64);
+                words[i * 2 * q + q + j / 64] |= u64::from(digit == 2) << (j % 64);
             }
         }
         words
@@ -97,15 +101,29 @@ pub fn faults(rows: usize, columns: usize, words: &[u64]) -> (bool, bool) {
     (stray, padded)
 }
 
+/// Sets the two bits of one place, which may be a padding place.
+pub fn put(columns: usize, words: &mut [u64], (i, j): (usize, usize), (unit, sign): (bool, bool)) {
+    let q = words_of_plane(columns);
+    let bit = 1u64 << (j % 64);
+    for (plane, on) in [(0, unit), (1, sign)] {
+        let word = &mut words[(2 * i + plane) * q + j / 64];
+        *word = if on { *word | bit } else { *word & !bit };
+    }
+}
+
+/// The schoolbook product. A sum is at most four times the columns of A, which are 1,024 or fewer.
 pub fn product(a: &Digits, b: &Digits) -> Digits {
     let mut made = Digits::zero(a.rows, b.columns);
     for i in 0..a.rows {
-        for j in 0..b.columns {
-            let mut sum = 0u32;
-            for t in 0..a.columns {
-                sum += a.at(i, t) as u32 * b.at(t, j) as u32;
+        let mut sums = vec![0u16; b.columns];
+        for t in 0..a.columns {
+            let digit = a.at(i, t) as u16;
+            for (sum, other) in sums.iter_mut().zip(b.row(t)) {
+                *sum += digit * *other as u16;
             }
-            made.cells[i * b.columns + j] = (sum % 3) as u8;
+        }
+        for (cell, sum) in made.row_mut(i).iter_mut().zip(&sums) {
+            *cell = (sum % 3) as u8;
         }
     }
     made
@@ -155,4 +173,26 @@ pub fn list(a: &Digits, width: usize) -> Vec<Step> {
         first += w;
     }
     steps
+}
+
+/// Carries steps of the list out, on table and product as they are found.
+pub fn walk(steps: &[Step], b: &Digits, table: &mut Digits, product: &mut Digits) {
+    for step in steps {
+        match *step {
+            Step::Table { row, from, of_b } => {
+                let mut made = table.row(from).to_vec();
+                add_times(&mut made, 1, b.row(of_b));
+                table.row_mut(row).copy_from_slice(&made);
+            }
+            Step::Add { row, from } => add_times(product.row_mut(row), 1, table.row(from)),
+            // Two times a digit is its negation.
+            Step::Subtract { row, from } => add_times(product.row_mut(row), 2, table.row(from)),
+        }
+    }
+}
+
+fn add_times(row: &mut [u8], times: u8, other: &[u8]) {
+    for (x, y) in row.iter_mut().zip(other) {
+        *x = (*x + times * *y) % 3;
+    }
 }

@@ -1,7 +1,8 @@
 //! Calls made from a seed: legal ones, and ones with one, two or three faults at once, so that the order of refusals is seen.
 
 use crate::call::{bytes, words, Call, Name, NAMES};
-use crate::digits::{list, words_of_plane, Digits};
+use crate::digits::{list, put, words_of_plane, Digits};
+use crate::guard::noise;
 use crate::random::Random;
 
 const SIZES: [u64; 10] = [0, 1, 2, 3, 5, 8, 31, 63, 64, 64];
@@ -93,10 +94,6 @@ fn legal(random: &mut Random, rows: u64, columns: u64) -> Vec<u8> {
         return noise(random, 48);
     }
     bytes(&Digits::random(random, rows as usize, columns as usize).words())
-}
-
-fn noise(random: &mut Random, length: usize) -> Vec<u8> {
-    (0..length).map(|_| random.word() as u8).collect()
 }
 
 /// A buffer that is only overwritten: of the right length, any bytes.
@@ -289,12 +286,8 @@ fn cell(random: &mut Random, call: &mut Call, plan: &Plan, stray: bool) {
     } else {
         columns + random.below(64 * q - columns)
     };
-    let bit = 1u64 << (j % 64);
-    let (unit, sign) = if stray { (false, true) } else { random.of(&[(true, false), (false, true), (true, true)]) };
-    for (plane, on) in [(0, unit), (1, sign)] {
-        let word = &mut held[(2 * i + plane) * q + j / 64];
-        *word = if on { *word | bit } else { *word & !bit };
-    }
+    let bits = if stray { (false, true) } else { random.of(&[(true, false), (false, true), (true, true)]) };
+    put(columns, &mut held, (i, j), bits);
     *buffer = bytes(&held);
 }
 

@@ -2,7 +2,7 @@
 //! list of row steps walked entry by entry.
 
 use crate::call::{bytes, words, Call, Name, Written};
-use crate::digits::{faults, list, product, words_of_plane, Digits, Step};
+use crate::digits::{faults, list, product, walk, words_of_plane, Digits};
 
 /// Every number whose test holds, in document 01's order; the first is the answer, none means done. A test that needs an earlier one to have
 /// passed (a length needs sizes, cells need a length) is left out where it has not.
@@ -160,15 +160,7 @@ fn turned(call: &Call, left: &mut Written) {
     let steps = list(&a, width);
     let first = record[4] as usize;
     let made = (steps.len() - first).min(call.budget as usize);
-    for step in &steps[first..first + made] {
-        for j in 0..n {
-            match *step {
-                Step::Table { row, from, of_b } => table.cells[row * n + j] = (table.at(from, j) + b.at(of_b, j)) % 3,
-                Step::Add { row, from } => product.cells[row * n + j] = (product.at(row, j) + table.at(from, j)) % 3,
-                Step::Subtract { row, from } => product.cells[row * n + j] = (product.at(row, j) + 3 - table.at(from, j)) % 3,
-            }
-        }
-    }
+    walk(&steps[first..first + made], &b, &mut table, &mut product);
     record[4] += made as u64;
     record[5] = made as u64;
     record[6] = (record[4] == steps.len() as u64) as u64;

@@ -1,39 +1,10 @@
 //! Carries out a call with guard bytes about every buffer and holds what came of it to what document 01 wants.
 
 use crate::call::{Call, Name, Written};
+use crate::guard::Guarded;
 use crate::library::{self, Job};
 use crate::meaning::{done, numbers};
 use crate::random::Random;
-
-const GUARD: usize = 24;
-
-/// A buffer in the midst of guard bytes, at any alignment.
-struct Guarded {
-    all: Vec<u8>,
-    before: Vec<u8>,
-    start: usize,
-    length: usize,
-}
-
-impl Guarded {
-    fn new(random: &mut Random, held: &[u8]) -> Guarded {
-        let start = GUARD + random.below(8);
-        let mut all: Vec<u8> = (0..start).map(|_| random.word() as u8).collect();
-        all.extend(held);
-        all.extend((0..GUARD).map(|_| random.word() as u8));
-        Guarded { before: all.clone(), all, start, length: held.len() }
-    }
-
-    fn part(&mut self) -> &mut [u8] {
-        &mut self.all[self.start..self.start + self.length]
-    }
-
-    /// What the whole has to be if the buffer holds `wanted`: the guards are as they were.
-    fn holds(&self, wanted: &[u8]) -> bool {
-        let end = self.start + self.length;
-        self.all[..self.start] == self.before[..self.start] && self.all[self.start..end] == *wanted && self.all[end..] == self.before[end..]
-    }
-}
 
 pub struct Trial {
     /// Every number whose test holds; the first is the answer.
@@ -80,16 +51,10 @@ pub fn carry_out(random: &mut Random, call: &Call) -> Trial {
     if got != wanted {
         wrong.push(format!("number: expected {wanted}, got {got}"));
     }
-    for (name, buffer, held) in [
-        ("record", &record, &left.record),
-        ("A", &a, &call.a),
-        ("B", &b, &call.b),
-        ("table", &table, &left.table),
-        ("product", &product, &left.product),
-    ] {
-        if !buffer.holds(held) {
-            wrong.push(format!("{name}: expected {held:02x?} within {GUARD} guard bytes,\n    found {:02x?}", buffer.all));
-        }
-    }
+    wrong.extend(record.complaint("record", &left.record));
+    wrong.extend(a.complaint("A", &call.a));
+    wrong.extend(b.complaint("B", &call.b));
+    wrong.extend(table.complaint("table", &left.table));
+    wrong.extend(product.complaint("product", &left.product));
     Trial { numbers, left, wrong }
 }

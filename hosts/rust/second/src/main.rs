@@ -5,7 +5,7 @@
 //!     second --program PATH [--runner 'WORDS'] [--count N] [--seed S] [--only INDEX] [--jobs J] [--keep FOLDER]
 //!     second --judge      prints what multiply has to print for standard input, so that the samples judge this program too
 //!
-//! An input that makes a difference stays in the folder; the exit status is then 1.
+//! An input that makes a difference stays in the folder; the exit status is then 1, as it is where there was no input.
 
 #[path = "../../common/digits.rs"]
 #[allow(dead_code)]
@@ -174,6 +174,9 @@ fn main() {
     let counted: Vec<String> = answers.iter().map(|(answer, count)| format!("{answer}: {count}")).collect();
     println!("answers by number: {}", counted.join(", "));
     let differ = differ.into_inner();
+    if end == first {
+        println!("no input was made, nothing is compared");
+    }
     println!("{} inputs, {differ} differ", end - first);
-    exit((differ > 0) as i32)
+    exit((differ > 0 || end == first) as i32)
 }

@@ -1,0 +1,127 @@
+//! What each request has to leave, by document 01: digits one by one, the schoolbook product, the list of row steps walked entry by entry.
+
+use crate::call::{Call, Name, Part, Written};
+use crate::digits::{list, product, walk, Digits, Step};
+
+/// The digits of one of an accepted call's matrices.
+fn digits(call: &Call, part: Part) -> Digits {
+    let (rows, columns) = call.size(part).expect("an accepted call has sizes");
+    if part == Part::Cells {
+        return Digits { rows, columns, cells: call.cells.clone() };
+    }
+    Digits::of_words(rows, columns, call.words(part))
+}
+
+/// What a refused call leaves: every buffer as it was, counts and records of 0; a turn hands its record back.
+pub fn refused(call: &Call) -> Written {
+    let mut given = vec![0; call.given.len()];
+    if call.name == Name::Turn {
+        given[..5].copy_from_slice(&call.given[..5]);
+    }
+    Written { given, cells: call.cells.clone(), table: call.table.clone(), result: call.result.clone() }
+}
+
+/// What an accepted call leaves.
+pub fn done(call: &Call) -> Written {
+    let mut left = refused(call);
+    match call.name {
+        Name::Check => {}
+        Name::Pack => left.result = digits(call, Part::Cells).words(),
+        Name::Unpack => left.cells = digits(call, Part::A).cells,
+        Name::Sum => left.result = pairs(call, |x, y| x + y),
+        Name::Difference => left.result = pairs(call, |x, y| x + 3 - y),
+        Name::Negation => left.result = singles(call, |x| 3 - x),
+        Name::Scaling => left.result = singles(call, |x| call.digit * x),
+        Name::Transpose => left.result = transposed(&digits(call, Part::A)).words(),
+        Name::Tally => left.given = tally(&digits(call, Part::A)),
+        Name::Quote => left.given = vec![quote(call)],
+        Name::Total => left.given = vec![steps(call).len() as u64],
+        Name::Opening => opened(call, &mut left),
+        Name::Turn => turned(call, &mut left),
+        Name::Product => multiplied(call, &mut left),
+    }
+    left
+}
+
+fn singles(call: &Call, f: impl Fn(u8) -> u8) -> Vec<u64> {
+    let mut a = digits(call, Part::A);
+    for x in a.cells.iter_mut() {
+        *x = f(*x) % 3;
+    }
+    a.words()
+}
+
+fn pairs(call: &Call, f: impl Fn(u8, u8) -> u8) -> Vec<u64> {
+    let mut a = digits(call, Part::A);
+    let b = digits(call, Part::B);
+    for (x, y) in a.cells.iter_mut().zip(&b.cells) {
+        *x = f(*x, *y) % 3;
+    }
+    a.words()
+}
+
+fn transposed(a: &Digits) -> Digits {
+    let mut made = Digits::zero(a.columns, a.rows);
+    for i in 0..a.rows {
+        for j in 0..a.columns {
+            made.cells[j * a.rows + i] = a.at(i, j);
+        }
+    }
+    made
+}
+
+/// Zeros, ones, twos, and 1 if ones and twos are equally many.
+fn tally(row: &Digits) -> Vec<u64> {
+    let count = |digit: u8| row.cells.iter().filter(|cell| **cell == digit).count() as u64;
+    vec![count(0), count(1), count(2), (count(1) == count(2)) as u64]
+}
+
+/// The sum over blocks of (2^w - 1) + m times the smaller of 2 and w.
+fn quote(call: &Call) -> u64 {
+    let (m, l) = call.a_size;
+    let width = call.meant().expect("an accepted call has a width") as u64;
+    let mut sum = 0;
+    let mut first = 0;
+    while first < l {
+        let w = width.min(l - first);
+        sum += (1 << w) - 1 + m * w.min(2);
+        first += w;
+    }
+    sum
+}
+
+fn steps(call: &Call) -> Vec<Step> {
+    list(&digits(call, Part::A), call.meant().expect("an accepted call has a width"))
+}
+
+fn opened(call: &Call, left: &mut Written) {
+    let width = call.meant().expect("an accepted call has a width") as u64;
+    left.given = vec![call.a_size.0, call.a_size.1, call.b_size.1, width, 0, 0, 0];
+    left.table = vec![0; call.table.len()];
+    left.result = vec![0; call.result.len()];
+}
+
+/// The next steps of the list, on table and product as found.
+fn turned(call: &Call, left: &mut Written) {
+    let steps = steps(call);
+    let first = call.given[4] as usize;
+    let made = (steps.len() - first).min(call.budget as usize);
+    let (mut table, mut product) = (digits(call, Part::Table), digits(call, Part::Result));
+    walk(&steps[first..first + made], &digits(call, Part::B), &mut table, &mut product);
+    left.given[4] += made as u64;
+    left.given[5] = made as u64;
+    left.given[6] = (first + made == steps.len()) as u64;
+    left.table = table.words();
+    left.result = product.words();
+}
+
+/// The schoolbook product, and the table that the list leaves: only its table steps write that.
+fn multiplied(call: &Call, left: &mut Written) {
+    let (a, b) = (digits(call, Part::A), digits(call, Part::B));
+    let (rows, columns) = call.size(Part::Table).expect("an accepted call has sizes");
+    let mut table = Digits::zero(rows, columns);
+    let table_steps: Vec<Step> = steps(call).into_iter().filter(|step| matches!(step, Step::Table { .. })).collect();
+    walk(&table_steps, &b, &mut table, &mut Digits::zero(0, columns));
+    left.table = table.words();
+    left.result = product(&a, &b).words();
+}

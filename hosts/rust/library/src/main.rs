@@ -1,0 +1,103 @@
+//! A Rust host of the library itself. It links the archive of the fourteen requests over words, wraps the calls safely, and compares every call
+//! with an implementation of its own that shares no code with the library: number, what comes back beside it, and every buffer word for word,
+//! guard words about them too, refused or not.
+//!
+//!     library [--count N] [--seed S]
+//!
+//! Half of the calls are legal, with rows of every length up to 16 words a plane; the others have every fault that the request can have by itself,
+//! and every pair of faults. It counts how often each number came from each request, and which numbers stood behind others: a pair 4<5 means that
+//! a call with both faults was answered 4. A number that a request can give and never gave, a length of rows that was not met, and any
+//! difference end it with status 1.
+
+mod call;
+#[path = "../../common/counts.rs"]
+mod counts;
+mod damage;
+#[path = "../../common/digits.rs"]
+mod digits;
+mod doing;
+#[path = "../../common/guard.rs"]
+mod guard;
+mod linked;
+mod making;
+mod meaning;
+mod met;
+#[path = "../../common/options.rs"]
+mod options;
+#[path = "../../common/random.rs"]
+mod random;
+mod sizes;
+mod together;
+mod trial;
+
+use call::Name;
+use met::{Met, ENOUGH};
+use random::Random;
+use std::process::exit;
+use together::Caller;
+
+/// The requests of one round, so often that a run meets every plan of faults; then come a job and a round trip.
+const ROUND: [Name; 27] = [
+    Name::Turn,
+    Name::Check,
+    Name::Product,
+    Name::Sum,
+    Name::Opening,
+    Name::Transpose,
+    Name::Turn,
+    Name::Scaling,
+    Name::Product,
+    Name::Difference,
+    Name::Pack,
+    Name::Total,
+    Name::Turn,
+    Name::Quote,
+    Name::Tally,
+    Name::Product,
+    Name::Total,
+    Name::Opening,
+    Name::Unpack,
+    Name::Opening,
+    Name::Transpose,
+    Name::Turn,
+    Name::Scaling,
+    Name::Quote,
+    Name::Sum,
+    Name::Negation,
+    Name::Difference,
+];
+
+fn main() {
+    let (count, seed) = options::count_and_seed("library", ENOUGH);
+    let mut met = Met::default();
+    let mut made = [0; 14];
+    let mut index = 0;
+    while met.counts.calls < count {
+        let mut random = Random::new(seed, index);
+        let place = format!("seed {seed} index {index}");
+        let (round, slot) = (index as usize / (ROUND.len() + 2), index as usize % (ROUND.len() + 2));
+        let mut caller = Caller { random: &mut random, place: &place, met: &mut met };
+        match ROUND.get(slot) {
+            Some(name) => {
+                single(&mut caller, *name, made[*name as usize]);
+                made[*name as usize] += 1;
+            }
+            None if slot == ROUND.len() => drop(caller.job(round)),
+            None => drop(caller.round_trip(round)),
+        }
+        index += 1;
+    }
+    exit(met.summary())
+}
+
+/// One call by itself: legal and damaged ones in turn.
+fn single(caller: &mut Caller, name: Name, made: usize) {
+    if made % 2 == 0 {
+        let call = making::legal(caller.random, name, made / 2);
+        caller.call(&call);
+    } else {
+        let call = damage::call(caller.random, name, made / 2);
+        caller.call(&call);
+        caller.met.plans[name as usize] += 1;
+    }
+}
