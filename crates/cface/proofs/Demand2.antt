@@ -27,6 +27,7 @@ use Rattle.matrix.specs.Difference.{differenceOf}
 use Rattle.matrix.specs.Negation.{negationOf}
 use Rattle.matrix.specs.Opening.{newJob}
 use Rattle.matrix.specs.Turn.{sizeA, sizeB, leftOf, madeOf, onJob, turnedOf}
+use Rattle.matrix.specs.Record.{recordOf}
 use Rattle.matrix.proofs.FieldLaws.{add-lt, sub-lt, neg-lt}
 use Rattle.matrix.proofs.JobLaws.{meant-le}
 use Rattle.wordbytes.specs.Bytes.{wordsIn}
@@ -38,7 +39,6 @@ use Rattle.cface.specs.Sum.{sumFace}
 use Rattle.cface.specs.Difference.{differenceFace}
 use Rattle.cface.specs.Negation.{negationFace}
 use Rattle.cface.specs.Product.{productFace}
-use Rattle.matrix.specs.Record.{recordOf}
 use Rattle.cface.specs.Open.{openSizes, openFaceTests, openFace}
 use Rattle.cface.specs.Turn.{turnSizes, turnFaceTests, turnFace}
 use Rattle.cface.specs.Stands.{Held}

@@ -29,6 +29,7 @@ use Rattle.matrix.specs.Sum.{sumOf}
 use Rattle.matrix.specs.Difference.{differenceOf}
 use Rattle.matrix.specs.Negation.{negationOf}
 use Rattle.matrix.specs.Turn.{turnedOf}
+use Rattle.matrix.specs.Record.{jobIn, recordOf}
 use Rattle.wordbytes.specs.Bytes.{byteOf, valueOf, wordsIn, bytesOf}
 use Rattle.cface.specs.Limit.{above, unfitBytes, misfitBytes}
 use Rattle.cface.specs.Check.{checkSizes, checkFaceTests, checkFace}
@@ -37,7 +38,6 @@ use Rattle.cface.specs.Sum.{sumFace}
 use Rattle.cface.specs.Difference.{differenceFace}
 use Rattle.cface.specs.Negation.{negationSizes, negationFaceTests, negationFace}
 use Rattle.cface.specs.Product.{productSizes, productFaceTests, productFace}
-use Rattle.matrix.specs.Record.{jobIn, recordOf}
 use Rattle.cface.specs.Record.{unfitRecord}
 use Rattle.cface.specs.Open.{openSizes, openFaceTests, openFace}
 use Rattle.cface.specs.Turn.{turnSizes, turnFaceTests, turnFace}

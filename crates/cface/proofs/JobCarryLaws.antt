@@ -23,12 +23,12 @@ use Rattle.matrix.specs.Misfit.{misfit}
 use Rattle.matrix.specs.Opening.{sizeTests, wordTests, openingTests, openingMeans}
 use Rattle.matrix.specs.Product.{productMeans}
 use Rattle.matrix.specs.Turn.{sizeA, sizeB, foundTests, turnTests, turnMeans}
+use Rattle.matrix.specs.Record.{jobIn, recordOf}
 use Rattle.matrix.proofs.JobLaws.{meant-le}
 use Rattle.matrix.proofs.Demand3.{product-end}
 use Rattle.wordbytes.specs.Bytes.{wordsIn, bytesOf}
 use Rattle.cface.specs.Limit.{above, unfitBytes, misfitBytes}
 use Rattle.cface.specs.Product.{productSizes, productFaceTests, productFace}
-use Rattle.matrix.specs.Record.{jobIn, recordOf}
 use Rattle.cface.specs.Record.{unfitRecord}
 use Rattle.cface.specs.Open.{openSizes, openFaceTests, openBytes, openFace}
 use Rattle.cface.specs.Turn.{turnSizes, turnWords, turnBytes, turnFaceTests, turnFace}

@@ -15,6 +15,7 @@ use Rattle.matrix.specs.Turn.{turnedOf}
 use Rattle.matrix.specs.Sum.{sumOf}
 use Rattle.matrix.specs.Difference.{differenceOf}
 use Rattle.matrix.specs.Negation.{negationOf}
+use Rattle.matrix.specs.Record.{jobIn}
 use Rattle.wordbytes.specs.Bytes.{wordsIn, bytesOf}
 use Rattle.cface.specs.Check.{checkSizes, checkFaceTests, checkFace}
 use Rattle.cface.specs.Pair.{pairSizes, pairFaceTests}
@@ -22,7 +23,6 @@ use Rattle.cface.specs.Sum.{sumFace}
 use Rattle.cface.specs.Difference.{differenceFace}
 use Rattle.cface.specs.Negation.{negationSizes, negationFaceTests, negationFace}
 use Rattle.cface.specs.Product.{productSizes, productFaceTests, productFace}
-use Rattle.matrix.specs.Record.{jobIn}
 use Rattle.cface.specs.Open.{openSizes, openFaceTests, openBytes, openFace}
 use Rattle.cface.specs.Turn.{turnSizes, turnBytes, turnFaceTests, turnFace}
 

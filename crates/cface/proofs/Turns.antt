@@ -30,11 +30,11 @@ use Rattle.matrix.specs.Job.{meant, tableSize, productSize, totalOf}
 use Rattle.matrix.specs.Opening.{openedOf}
 use Rattle.matrix.specs.Turn.{sizeA, sizeB}
 use Rattle.matrix.specs.Stands.{stateAt, jobAt}
+use Rattle.matrix.specs.Record.{jobIn, recordOf}
 use Rattle.matrix.proofs.JobLaws.{meant-pos, meant-le, Fitting, opening-ready}
 use Rattle.matrix.proofs.Demand3.{turn-at, end-right}
 use Rattle.wordbytes.specs.Bytes.{wordsIn, bytesOf}
 use Rattle.cface.specs.Limit.{above, unfitBytes, misfitBytes}
-use Rattle.matrix.specs.Record.{jobIn, recordOf}
 use Rattle.cface.specs.Record.{unfitRecord}
 use Rattle.cface.specs.Open.{openSizes, openFaceTests, openBytes, openFace}
 use Rattle.cface.specs.Turn.{turnSizes, turnFace}

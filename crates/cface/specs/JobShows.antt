@@ -12,9 +12,9 @@ use Rattle.matrix.specs.Job.{meant, totalOf}
 use Rattle.matrix.specs.Opening.{newJob}
 use Rattle.matrix.specs.Turn.{sizeA, leftOf, madeOf, onJob}
 use Rattle.matrix.specs.Stands.{stateAt, jobAt}
+use Rattle.matrix.specs.Record.{jobIn, recordOf}
 use Rattle.wordbytes.specs.Bytes.{wordsIn}
 use Rattle.wordbytes.specs.ShowsBytes.{ShowsBytes}
-use Rattle.matrix.specs.Record.{jobIn, recordOf}
 use Rattle.cface.specs.Stands.{Held}
 
 -- an opening of A, of size x, and B, of size y, at the width w

@@ -10,9 +10,9 @@ use Rattle.requests.specs.Sizes.{over}
 use Rattle.matrix.specs.declared.job.Job.{Job}
 use Rattle.matrix.specs.Job.{meant, unmatched}
 use Rattle.matrix.specs.Opening.{wordTests, openedOf}
+use Rattle.matrix.specs.Record.{recordOf}
 use Rattle.wordbytes.specs.Bytes.{wordsIn, bytesOf}
 use Rattle.cface.specs.Limit.{above, misfitBytes}
-use Rattle.matrix.specs.Record.{recordOf}
 use Rattle.cface.specs.Record.{unfitRecord}
 
 -- the tests of sizes, width and lengths; k, l, m, t and p are how many bytes record, A, B, table and product have

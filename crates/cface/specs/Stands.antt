@@ -6,8 +6,8 @@ use Prim.Native.Nat.{ℕ, _^_, _<_}
 use Rattle.buffers.specs.Buffer.{encode}
 use Rattle.requests.specs.declared.Size.{Size}
 use Rattle.matrix.specs.Stands.{stateAt, jobAt}
-use Rattle.wordbytes.specs.Bytes.{wordsIn, bytesOf}
 use Rattle.matrix.specs.Record.{recordOf}
+use Rattle.wordbytes.specs.Bytes.{wordsIn, bytesOf}
 
 -- the bytes that a host holds of a job between turns: record, table and product
 abbrev pub Held : Type 0

@@ -8,9 +8,9 @@ use Rattle.requests.specs.Sizes.{over}
 use Rattle.matrix.specs.declared.job.Job.{Job}
 use Rattle.matrix.specs.Job.{unwide}
 use Rattle.matrix.specs.Turn.{sizeA, sizeB, cellTests, lateTests, turnedOf}
+use Rattle.matrix.specs.Record.{jobIn, recordOf}
 use Rattle.wordbytes.specs.Bytes.{wordsIn, bytesOf}
 use Rattle.cface.specs.Limit.{above, misfitBytes}
-use Rattle.matrix.specs.Record.{jobIn, recordOf}
 use Rattle.cface.specs.Record.{unfitRecord}
 
 -- the tests of sizes, width and lengths; k, l, m, t and p are how many bytes record, A, B, table and product have

@@ -4,19 +4,19 @@ use mathlib.Core.List.{List}
 use Prim.Native.Nat.{ℕ, _+_, _*_, _<_}
 use lib.ListN.{length, getD}
 use Rattle.buffers.specs.Buffer.{cell, Legal, Words, encode}
+use Rattle.buffers.proofs.SizeLaws.{cell-lt}
 use Rattle.buffers.proofs.BufferLaws.{cell-encode, encode-cell, encode-legal, encode-within}
-use Rattle.matrix.specs.Unpacked.{byteAt, bytes}
+use Rattle.requests.specs.declared.Size.{Size}
+use Rattle.requests.specs.declared.Answer.{Answer}
+use Rattle.requests.specs.Answers.{number}
+use Rattle.requests.proofs.AnswerLaws.{none-first}
+use Rattle.matrix.specs.Unpacked.{byteAt}
 use Rattle.matrix.specs.Pack.{packOf, packMeans}
 use Rattle.matrix.specs.Unpack.{unpackOf, unpackMeans}
 use Rattle.matrix.proofs.UnpackLaws.{bytes-all, byte-of, bytes-length, bytes-small}
 use Rattle.matrix.proofs.PackLaws as pack
 use Rattle.matrix.proofs.UnpackLaws as unpack
 use Rattle.matrix.proofs.Demand1.{pack-exact, unpack-exact}
-use Rattle.requests.specs.declared.Size.{Size}
-use Rattle.requests.specs.declared.Answer.{Answer}
-use Rattle.requests.specs.Answers.{number}
-use Rattle.requests.proofs.AnswerLaws.{none-first}
-use Rattle.buffers.proofs.SizeLaws.{cell-lt}
 
 pub packed-unpacked : (r c : ℕ) (a : List ℕ) → Legal r c a → Words a → packOf r c (unpackOf r c a) ≡ a
 unfolding packOf unpackOf byteAt

@@ -1,5 +1,4 @@
 // What a host sees after a header line is read, and after one is written.
-ghost use mathlib.Core.Path.{_≡_};
 ghost use Prim.Native.Nat.{ℕ};
 ghost use lib.ListN.{length};
 ghost use Rattle.requests.specs.Answers.{number};
