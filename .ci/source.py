@@ -179,7 +179,6 @@ class Source:
                 found.setdefault(m[1], []).append(Theorem(' → '.join(given + [whole])))
         return found
 
-
     @property
     def opaque(self):
         """Why the file cannot be read word for word, if it cannot."""

@@ -1,6 +1,6 @@
 -- An opening, and then a turn for each of some budgets: where the job stands after the first i of them. Assumes nothing.
-use mathlib.Core.Path.{_≡_, refl, subst, _∙_}
-use mathlib.Core.List.{List, [], _∷_}
+use mathlib.Core.Path.{_≡_, subst, _∙_}
+use mathlib.Core.List.{List}
 use Prim.Native.Nat.{ℕ, _+_, _≤_, _<_, min}
 use native.Mathlib.Omega.{arith}
 use lib.ListN.{length, getD, take}
@@ -10,7 +10,7 @@ use Rattle.requests.specs.Exact.{Seen}
 use Rattle.requests.proofs.AnswerLaws.{goes-on}
 use Rattle.steps.specs.Matrix.{schoolbook}
 use Rattle.steps.specs.Turn.{allBudgets}
-use Rattle.steps.proofs.Turns.{budgets-more}
+use Rattle.steps.proofs.Turns.{led, led-none, led-more}
 use Rattle.matrix.specs.Job.{meant, totalOf}
 use Rattle.wordbytes.specs.Bytes.{wordsIn}
 use Rattle.wordbytes.proofs.ShowsBytesLaws.{encode-shows-bytes}
@@ -21,14 +21,9 @@ use Rattle.cface.proofs.Refusals.{open-exact}
 use Rattle.cface.proofs.Turns.{F, facts, started, turn-goes-on, seen-standing, end-stands}
 use Rattle.bytecalls.specs.Run.{Run}
 
-budgets-none : (bs : List ℕ) → allBudgets (take 0 bs) ≡ 0
-unfolding allBudgets
-budgets-none [] = refl
-budgets-none (n ∷ bs) = refl
-
 -- after the first i budgets
 abbrev pub stood : Size → ℕ → List ℕ → List ℕ → ℕ → ℕ
-stood x w a budgets i = min (allBudgets (take i budgets)) (totalOf x (meant w) (wordsIn a))
+stood x w a budgets i = led budgets (totalOf x (meant w) (wordsIn a)) i
 
 abbrev pub StoodAt : Size → Size → ℕ → List ℕ → List ℕ → List ℕ → ℕ → Held → Type 0
 StoodAt x y w a b budgets i s = Stands x y (meant w) a b (stood x w a budgets i) (s .0) (s .1 .0) (s .1 .1)
@@ -39,15 +34,13 @@ module _ (x y : Size) (w : ℕ) (job a b t p budgets : List ℕ) (f : ℕ) (s₀
 
   pub run-start : StoodAt x y w a b budgets 0 s₀
   run-start =
-      let e : stood x w a budgets 0 ≡ 0 = omega (arith, budgets-none budgets) in
-      rw e (started x y w job a b t p (s₀ .0) (s₀ .1 .0) (s₀ .1 .1) done)
+      rw (← led-none budgets (totalOf x (meant w) (wordsIn a))) (started x y w job a b t p (s₀ .0) (s₀ .1 .0) (s₀ .1 .1) done)
 
   pub run-next : (i n : ℕ) (s s₁ : Held) → i < length budgets → StoodAt x y w a b budgets i s → (n, s₁) ≡ turnFace (s .0) a b (s .1 .0) (s .1 .1) (getD budgets i 0)
       → (n ≡ 0) × StoodAt x y w a b budgets (i + 1) s₁
   run-next i n s s₁ h S says =
       let T = turn-goes-on x y w job a b t p (s₀ .0) (s₀ .1 .0) (s₀ .1 .1) done (stood x w a budgets i) (getD budgets i 0) n s s₁ (omega arith) S says in
-      let e : min (stood x w a budgets i + getD budgets i 0) (totalOf x (meant w) (wordsIn a)) ≡ stood x w a budgets (i + 1) = omega (arith, budgets-more budgets i h) in
-      (T .0, subst (λ (d : ℕ). Stands x y (meant w) a b d (s₁ .0) (s₁ .1 .0) (s₁ .1 .1)) e (T .1))
+      (T .0, subst (λ (d : ℕ). Stands x y (meant w) a b d (s₁ .0) (s₁ .1 .0) (s₁ .1 .1)) (led-more budgets (totalOf x (meant w) (wordsIn a)) i h) (T .1))
 
   run-end : (i : ℕ) (s : Held) → length budgets ≤ i → StoodAt x y w a b budgets i s → Run x y w a b budgets s
   unfolding schoolbook

@@ -42,14 +42,25 @@ pub turns-from-start : {S : Type 0} (R : ℕ → S → S → Type 0) (Stands : �
     → (budgets : List ℕ) (s s₁ : S) → Stands 0 s → Given R s budgets s₁ → Stands (min (allBudgets budgets) long) s₁
 turns-from-start R Stands long one budgets s s₁ at given = rw zero-add at (any-turns R Stands long one budgets 0 s s₁ (omega arith) at given)
 
--- one budget more
-pub budgets-more : (budgets : List ℕ) (i : ℕ) → i < length budgets → allBudgets (take (i + 1) budgets) ≡ allBudgets (take i budgets) + getD budgets i 0
+budgets-more : (budgets : List ℕ) (i : ℕ) → i < length budgets → allBudgets (take (i + 1) budgets) ≡ allBudgets (take i budgets) + getD budgets i 0
 unfolding allBudgets
 budgets-more [] i h = absurd (omega arith)
 budgets-more (budget ∷ budgets) zero h = omega arith
 budgets-more (budget ∷ budgets) (suc i) h =
     let e : suc i + 1 ≡ suc (i + 1) = omega arith in
     rw e (omega (arith, budgets-more budgets i (omega arith)))
+
+-- how far the first i budgets lead in a list of so many steps
+abbrev pub led : List ℕ → ℕ → ℕ → ℕ
+led budgets long i = min (allBudgets (take i budgets)) long
+
+pub led-none : (budgets : List ℕ) (long : ℕ) → 0 ≡ led budgets long 0
+unfolding allBudgets
+led-none [] long = omega arith
+led-none (budget ∷ budgets) long = omega arith
+
+pub led-more : (budgets : List ℕ) (long i : ℕ) → i < length budgets → min (led budgets long i + getD budgets i 0) long ≡ led budgets long (i + 1)
+led-more budgets long i h = omega (arith, budgets-more budgets i h)
 
 module _ (B : Matrix) (ps : List Step) (st : State) where
   -- b steps more after a of them are a + b steps

@@ -1,37 +1,25 @@
 -- A job that is given one turn after another. Assumes nothing.
-use mathlib.Core.Path.{_≡_, sym, ap, subst, _∙_}
+use mathlib.Core.Path.{_≡_, sym, ap, _∙_}
 use mathlib.Core.List.{List}
-use Prim.Native.Nat.{ℕ, _+_, _≤_, _<_, min}
+use Prim.Native.Nat.{ℕ, _≤_, min}
 use native.Mathlib.Omega.{arith}
-use lib.ListN.{length, take, getD}
+use lib.ListN.{length}
 use Rattle.cells.specs.Digit.{Matrix}
 use Rattle.buffers.specs.Buffer.{cell, Legal, encode}
 use Rattle.buffers.proofs.BufferLaws.{encode-length, encode-shows}
 use Rattle.requests.specs.declared.Size.{Size}
-use Rattle.steps.specs.Turn.{allBudgets}
 use Rattle.steps.specs.Matrix.{schoolbook}
 use Rattle.steps.proofs.Counts.{total-le}
-use Rattle.steps.proofs.Turns.{budgets-more}
+use Rattle.steps.proofs.Turns.{led}
 use Rattle.matrix.specs.declared.job.Job.{Job}
 use Rattle.matrix.specs.Job.{meant, totalOf}
 use Rattle.matrix.specs.Stands.{Stands}
 use Rattle.matrix.proofs.Demand3.{end-right}
 use Rattle.wordcalls.specs.Turns.{Reached}
 
-module _ (x y : Size) (k : ℕ) (a b budgets : List ℕ) where
-  -- it stands where the first i budgets lead
-  abbrev pub Led : ℕ → Job → List ℕ → List ℕ → Type 0
-  Led i = Stands x y k a b (min (allBudgets (take i budgets)) (totalOf x k a))
-
-  pub led-none : (job : Job) (t p : List ℕ) → Stands x y k a b 0 job t p → Led 0 job t p
-  unfolding allBudgets
-  led-none job t p S =
-      let z : 0 ≡ min 0 (totalOf x k a) = omega arith in
-      subst (λ (d : ℕ). Stands x y k a b d job t p) z S
-
-  pub led-more : (i : ℕ) (job : Job) (t p : List ℕ) → i < length budgets
-      → Stands x y k a b (min (min (allBudgets (take i budgets)) (totalOf x k a) + getD budgets i 0) (totalOf x k a)) job t p → Led (i + 1) job t p
-  led-more i job t p h S = subst (λ (d : ℕ). Stands x y k a b d job t p) (omega (arith, budgets-more budgets i h)) S
+-- it stands where the first i budgets lead
+abbrev pub Led : Size → Size → ℕ → List ℕ → List ℕ → List ℕ → ℕ → Job → List ℕ → List ℕ → Type 0
+Led x y k a b budgets i = Stands x y k a b (led budgets (totalOf x k a) i)
 
 -- a table, or a product, is as long at one place as at another
 pub as-long : (r n : ℕ) (M N : Matrix) (t t₁ : List ℕ) → t ≡ encode r n M → t₁ ≡ encode r n N → length t₁ ≡ length t

@@ -31,6 +31,18 @@ impl Random {
         self.below(n) == 0
     }
 
+    /// A turn's budget: none, one step, all there is, and anything between.
+    pub fn budget(&mut self) -> u32 {
+        match self.below(9) {
+            0 => 0,
+            1 => 1,
+            2 => u32::MAX,
+            3 => self.word() as u32,
+            4 => self.of(&[1 << 8, 1 << 16, 1 << 24, 1 << 31]),
+            _ => self.below(200) as u32,
+        }
+    }
+
     pub fn of<T: Copy>(&mut self, things: &[T]) -> T {
         things[self.below(things.len())]
     }

@@ -55,7 +55,7 @@ fn whole_job(random: &mut Random, place: &str, counts: &mut Counts) {
     let mut after_end = 0;
     while after_end < 2 {
         turn.budget = match random.below(6) {
-            0 => making::budget(random),
+            0 => random.budget(),
             1 => 0,
             _ => random.below(total as usize / 2 + 2) as u32,
         };

@@ -178,7 +178,7 @@ fn made(random: &mut Random, plan: &Plan) -> Call {
         a_size: a,
         b_size: b,
         width: plan.width,
-        budget: budget(random),
+        budget: random.budget(),
         record: if job { noise(random, 56) } else { Vec::new() },
         a: legal(random, a.0, a.1),
         b: if plan.name.has_b() { legal(random, b.0, b.1) } else { Vec::new() },
@@ -189,17 +189,6 @@ fn made(random: &mut Random, plan: &Plan) -> Call {
         },
         product: if turn { legal(random, result.0, result.1) } else { overwritten(random, result.0, result.1) },
         shared: false,
-    }
-}
-
-pub fn budget(random: &mut Random) -> u32 {
-    match random.below(9) {
-        0 => 0,
-        1 => 1,
-        2 => u32::MAX,
-        3 => random.word() as u32,
-        4 => random.of(&[1 << 8, 1 << 16, 1 << 24, 1 << 31]),
-        _ => random.below(200) as u32,
     }
 }
 

@@ -53,7 +53,7 @@ pub fn made(random: &mut Random, name: Name, (a_size, b_size): Sizes, width: u64
         b_size,
         width,
         digit: random.below(3) as u8,
-        budget: budget(random),
+        budget: random.budget(),
         given: noise(random, name.given()),
         cells: Vec::new(),
         a: Vec::new(),
@@ -83,17 +83,6 @@ fn room(call: &Call, part: Part) -> (usize, usize) {
         (Part::Table, None, 9 | 10) => (1 << call.width, n),
         (Part::Table, None, _) => (16, n),
         _ => call.size(part).expect("sizes up to 1,024"),
-    }
-}
-
-fn budget(random: &mut Random) -> u32 {
-    match random.below(8) {
-        0 => 0,
-        1 => 1,
-        2 => u32::MAX,
-        3 => random.word() as u32,
-        4 => random.of(&[1 << 8, 1 << 16, 1 << 24, 1 << 31]),
-        _ => random.below(200) as u32,
     }
 }
 

@@ -13,6 +13,7 @@ mod digits;
 mod frame;
 mod inputs;
 #[path = "../../common/random.rs"]
+#[allow(dead_code)]
 mod random;
 mod running;
 

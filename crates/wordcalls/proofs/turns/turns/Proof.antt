@@ -1,12 +1,14 @@
-use mathlib.Core.Path.{_≡_}
-use Prim.Native.Nat.{_-_, _≤_}
+use mathlib.Core.Path.{_≡_, subst}
+use Prim.Native.Nat.{ℕ, _-_, _≤_}
 use native.Mathlib.Omega.{arith}
 use lib.ListN.{length, take, getD}
 use lib.Seq.{take-all}
 use Rattle.requests.specs.declared.Size.{Size}
-use Rattle.matrix.specs.Job.{meant}
+use Rattle.steps.proofs.Turns.{led-none, led-more}
+use Rattle.matrix.specs.Job.{meant, totalOf}
+use Rattle.matrix.specs.Stands.{Stands}
 use Rattle.matrix.proofs.Demand3.{turn-on}
-use Rattle.wordcalls.proofs.TurnsLaws.{Led, led-none, led-more, as-long}
+use Rattle.wordcalls.proofs.TurnsLaws.{Led, as-long}
 use borrow.Author.Needs.{needs}
 use Rattle.wordcalls.proofs.turns.turns.Statement.{statement}
 use Rattle.wordcalls.proofs.turns.turns.Tie as tie
@@ -21,7 +23,12 @@ abbrev μ-loop : tie.MeasureT-loop
 loop-holds : tie.Need-loop-holds Inv-loop μ-loop
 loop-holds c =
     let s = c .before .before .before .before .before in
-    (omega arith, led-none _ _ _ _ _ (s .args .budgets .now) _ _ _ (s .pre .6))
+    let x : Size = record { rows = s .args .a-rows; columns = s .args .a-columns } in
+    let y : Size = record { rows = s .args .b-rows; columns = s .args .b-columns } in
+    let k = meant (s .args .width) in (
+      omega arith,
+      subst (λ (d : ℕ). Stands x y k (s .args .a .now) (s .args .b .now) d (s .args .new) (s .args .table .now) (s .args .product .now)) (led-none (s .args .budgets .now) (totalOf x k (s .args .a .now))) (s .pre .6),
+    )
 
 mul-turn : tie.Need-mul-turn Inv-loop μ-loop
 mul-turn c = search needs
@@ -49,7 +56,8 @@ loop-again c =
     let x : Size = record { rows = s .args .a-rows; columns = s .args .a-columns } in
     let y : Size = record { rows = s .args .b-rows; columns = s .args .b-columns } in
     let on = turn-on x y (s .args .width) (s .args .a .now) (s .args .b .now) (s .pre .0) (s .pre .1) (s .pre .2) (s .pre .3) (s .pre .4) (s .pre .5) _ (getD (s .args .budgets .now) (at .i) 0) (at .job) (at .table) (at .product) (made .result .answer) (made .result .job) (made .result .made) (made .result .finished) _ _ (omega arith) (at .inv .1) (made .ensures) in
-    (omega (arith, more), led-more x y (meant (s .args .width)) (s .args .a .now) (s .args .b .now) (s .args .budgets .now) (at .i) _ _ _ more (on .1))
+    let here = led-more (s .args .budgets .now) (totalOf x (meant (s .args .width)) (s .args .a .now)) (at .i) more in
+    (omega (arith, more), rw here at (on .1))
 
 same-length : tie.Need-same-length Inv-loop μ-loop
 same-length c = as-long _ _ _ _ _ _ (c .before .before .before .before .before .before .before .pre .6 .table-is) (c .before .loop .inv .1 .table-is)
