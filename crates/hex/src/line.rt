@@ -9,7 +9,7 @@ use super::digit::byte_of;
 use super::digit::digit_of;
 
 // One of the first n bytes is no digit.
-fn undigit(line: &[u8], n: usize) -> bool
+pub fn undigit(line: &[u8], n: usize) -> bool
     requires { ⌜ n ≤ length (now line) ⌝ }
     ensures { λ r. ⌜ r ≡ undigit (now (line .entry)) n ⌝ }
 {

@@ -1,5 +1,7 @@
 // Reads A, then B, then the end of the input, and prints their product and its total, or one refusal line: texts::multiply decides all of it.
-use libc::STDIN_FILENO;
+mod input;
+
+use input::read_text;
 use libc::STDOUT_FILENO;
 use texts::multiply::multiply;
 
@@ -7,7 +9,8 @@ use texts::multiply::multiply;
 // without an end gets its answer. No answer is longer than 8,338 bytes.
 fn main() {
     let mut input = [0u8; 16659];
-    let n = io::read_full(STDIN_FILENO, &mut input);
+    let read = read_text(&mut input);
+    let n = read.bytes;
     let mut output = [0u8; 8338];
     let m = multiply(&input[..n], &mut output);
     io::write_all(STDOUT_FILENO, &output[..m]);

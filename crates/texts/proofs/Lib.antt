@@ -11,3 +11,5 @@ pub mod Printed
 pub mod Limits
 pub mod Sample
 pub mod Impostors
+pub mod StopsLaws
+pub mod FirstFault

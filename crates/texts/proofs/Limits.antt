@@ -15,14 +15,14 @@ use Rattle.requests.specs.declared.Size.{Size}
 use Rattle.requests.specs.Answers.{Tests, first}
 use Rattle.requests.proofs.AnswerLaws.{append-given, append-none, append-front, first-none}
 use Rattle.hex.specs.Line.{unframed}
-use Rattle.frames.specs.Header.{sizeOf, readHeaderTests}
+use Rattle.frames.specs.Header.{readHeaderTests}
 use Rattle.frames.specs.RowLine.{lineLong, wordsOf}
 use Rattle.steps.specs.Matrix.{schoolbook}
 use Rattle.matrix.specs.Job.{meant, productSize, totalOf}
 use Rattle.texts.specs.MatrixText.{lineAt, misread, wordsRead, sizeIn, wordsIn, restOf, above, headTests, matrixTests}
 use Rattle.texts.specs.Multiply.{formTests, productTests, multiplyTests, refusal, productText, answerText, multiplyText}
 use Rattle.texts.proofs.LaidLaws.{refusal-long}
-use Rattle.texts.proofs.TextLaws.{few-words}
+use Rattle.texts.proofs.TextLaws.{same-size, same-head, few-words}
 use Rattle.texts.proofs.FramesLaws.{frames-long}
 use Rattle.texts.proofs.MultiplyLaws.{form-refused}
 
@@ -90,12 +90,10 @@ module _ (text : List ℕ) where
     head-same = take-take 9 n text (omega arith)
 
     size-same : sizeIn (take n text) ≡ sizeIn text
-    unfolding sizeIn
-    size-same = ap sizeOf head-same
+    size-same = same-size (take n text) text head-same
 
     tests-same : headTests (take n text) ≡ headTests text
-    unfolding headTests sizeIn
-    tests-same = ap (λ (l : List ℕ). readHeaderTests l ++ ((above (sizeOf l), 11) ∷ [])) head-same
+    tests-same = same-head (take n text) text head-same
 
     module _ (ok : first (headTests text) ≡ 0) where
       line-same : (i : ℕ) → i < r → lineAt c (drop 9 (take n text)) i ≡ lineAt c (drop 9 text) i
@@ -169,7 +167,7 @@ answer-of : (text : List ℕ) → first (formTests text) ≡ 0 → multiplyText 
 unfolding answer multiplyText multiplyTests formTests matrixTests headTests readHeaderTests
 answer-of text h = ap (λ (k : ℕ). answerText k (productText (sizeIn text) (sizeIn (restOf text)) (wordsIn text) (wordsIn (restOf text)))) (append-none (formTests text) _ tt h)
 
-refused-of : (text : List ℕ) (k : ℕ) → first (formTests text) ≡ suc k → multiplyText text ≡ refusal (suc k)
+pub refused-of : (text : List ℕ) (k : ℕ) → first (formTests text) ≡ suc k → multiplyText text ≡ refusal (suc k)
 unfolding multiplyText answerText
 refused-of text k e = rw (← form-refused text (suc k) (λ z. absurd (omega arith)) (sym e))
 

@@ -18,7 +18,7 @@ use Rattle.requests.specs.Answers.{first, left, answered}
 use Rattle.requests.proofs.AnswerLaws.{here, later, refused, finished, refusal-keeps, done-makes, append-given, append-none, first-none}
 use Rattle.hex.specs.Line.{hexOf, unframed}
 use Rattle.hex.proofs.HexLaws.{framed}
-use Rattle.frames.specs.Header.{readHeaderTests, readHeaderMeans}
+use Rattle.frames.specs.Header.{sizeOf, readHeaderTests, readHeaderMeans}
 use Rattle.frames.specs.RowLine.{lineLong, lineOf, wordsOf, readRowTests, readRowMeans, writeRowTests, writeRowMeans}
 use Rattle.hex.proofs.LineLaws.{hex-length}
 use Rattle.texts.specs.MatrixText.{lineAt, misread, wordsRead, linesOf, sizeIn, wordsIn, restOf, above, headTests, sizeMeans, matrixTests}
@@ -69,6 +69,16 @@ module _ (text : List ℕ) where
       pub size-done : false ≡ above (record { rows = r; columns = c }) → _≡_ {A = ℕ × (ℕ × ℕ)} (n, (r, c)) (sizeMeans text)
       unfolding sizeMeans first
       size-done h = ap (λ (k : ℕ). (k, (r, c))) ok ∙ finished _ _ _ (r, c) (after-header ∙ later _ 11 [] (sym above-is ∙ sym h)) size-is
+
+-- texts with one header line
+module _ (s t : List ℕ) (e : take 9 s ≡ take 9 t) where
+  pub same-size : sizeIn s ≡ sizeIn t
+  unfolding sizeIn
+  same-size = ap sizeOf e
+
+  pub same-head : headTests s ≡ headTests t
+  unfolding headTests sizeIn
+  same-head = ap (λ (l : List ℕ). readHeaderTests l ++ ((above (sizeOf l), 11) ∷ [])) e
 
 -- ---- the lines of rows
 
@@ -123,7 +133,7 @@ words-more c text i w k held old row e f h g =
 -- ---- a whole matrix
 
 module _ (text : List ℕ) (n r c : ℕ) (says : _≡_ {A = ℕ × (ℕ × ℕ)} (n, (r, c)) (sizeMeans text)) where
-  head-is : n ≡ first (headTests text)
+  pub head-is : n ≡ first (headTests text)
   unfolding sizeMeans answered
   head-is = ap (λ (o : ℕ × (ℕ × ℕ)). o .0) says
 

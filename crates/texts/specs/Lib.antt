@@ -1,3 +1,4 @@
 pub mod MatrixText
 pub mod Multiply
 pub mod Found
+pub mod Stops

@@ -35,7 +35,7 @@ fn above(rows: u64, columns: u64) -> bool
 }
 
 // The header line of nine bytes that stands at a place of the text.
-fn size_in(text: &[u8], start: usize) -> Header
+pub fn size_in(text: &[u8], start: usize) -> Header
     requires { ⌜ start ≤ length (now text) ⌝ }
     ensures { λ r. ⌜ (number (r .answer), (r .rows, r .columns)) ≡ sizeMeans (drop start (now (text .entry))) ⌝ }
 {

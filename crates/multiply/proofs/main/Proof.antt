@@ -5,17 +5,17 @@ use borrow.Author.Needs.{needs}
 use Rattle.multiply.proofs.main.Statement.{statement}
 use Rattle.multiply.proofs.main.Tie as tie
 
-slice-aggregate-read-full : tie.Need-slice-aggregate-read-full
-slice-aggregate-read-full c = search needs
+slice-aggregate-read-text : tie.Need-slice-aggregate-read-text
+slice-aggregate-read-text c = search needs
 
-read-full-requires : tie.Need-read-full-requires
-read-full-requires c κs = search needs
+read-text-requires : tie.Need-read-text-requires
+read-text-requires c κs = search needs
 
 array-share-prefix-input : tie.Need-array-share-prefix-input
 array-share-prefix-input c = search needs
 
 slice-aggregate-multiply : tie.Need-slice-aggregate-multiply
-slice-aggregate-multiply c = search needs
+slice-aggregate-multiply c = sym (length-take-le _ _ (c .before .before .read-text .ensures .within))
 
 slice-aggregate-multiply-2 : tie.Need-slice-aggregate-multiply-2
 slice-aggregate-multiply-2 c = search needs
@@ -39,8 +39,8 @@ pub main-spec : {M : Type 1} → statement M
 main-spec =
     tie.close
     (tie.spec
-    slice-aggregate-read-full
-    read-full-requires
+    slice-aggregate-read-text
+    read-text-requires
     array-share-prefix-input
     slice-aggregate-multiply
     slice-aggregate-multiply-2

@@ -1,0 +1,2 @@
+-- Laws of this program.
+pub mod ReadLaws
