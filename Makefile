@@ -1,24 +1,36 @@
-# make                      proves the C face and makes its archive (x86-64)
-# make install PREFIX=DIR   puts archive, header and pkg-config file in place; DESTDIR is put before PREFIX
-# make uninstall PREFIX=DIR takes them away
+# make                      proves the C face and makes its archive (x86-64), where a source is newer than the archive
+# make install PREFIX=DIR   does the same, and puts archive, header and pkg-config file in place; DESTDIR is put before PREFIX
+# make uninstall PREFIX=DIR takes these three files away
+#
+# ARCHIVE=FILE installs that archive, as it is. A relative PREFIX starts from this folder.
 PREFIX = /usr/local
-VERSION = 0.1.0
-ARCHIVE = target/staticlib/libcface.a
-to = $(DESTDIR)$(PREFIX)
+ARCHIVE =
+archive = target/staticlib/libcface.a
+# Folders too: theirs is the time at which a source was taken away or came in under another name.
+sources := $(shell find crates -type d -o -name '*.rt' -o -name '*.antt') crates.txt
 
-.PHONY: all install uninstall
-all:
+# The script gets names as they were typed. Make would cut them at spaces and read dollar signs in them.
+unexport PREFIX DESTDIR ARCHIVE
+export NYUZOLAMBA_PREFIX := $(value PREFIX)
+export NYUZOLAMBA_DESTDIR := $(value DESTDIR)
+export NYUZOLAMBA_INSTALLS := $(or $(value ARCHIVE),$(archive))
+
+.PHONY: all install uninstall checked
+all: $(archive)
+
+# Names are refused before the archive is made, which takes minutes.
+checked:
+	@include/install check
+
+# The archive gets the time at which its proof began: a source that was changed since then is newer.
+$(archive): $(sources) | $(if $(filter install,$(MAKECMDGOALS)),checked)
+	@command -v rt >/dev/null || { echo 'rt, the command of the Rattle kit, is not on the PATH' >&2; exit 1; }
+	@mkdir -p target && touch target/archive-began
 	rt staticlib cface
+	@touch -r target/archive-began $@
 
-$(ARCHIVE):
-	rt staticlib cface
+install: checked $(if $(value ARCHIVE),,$(archive))
+	@include/install install
 
-install: $(ARCHIVE)
-	install -d "$(to)/lib/pkgconfig" "$(to)/include"
-	install -m 644 $(ARCHIVE) "$(to)/lib/libnyuzolamba.a"
-	install -m 644 include/nyuzolamba.h "$(to)/include/nyuzolamba.h"
-	sed -e 's|@PREFIX@|$(PREFIX)|' -e 's|@VERSION@|$(VERSION)|' include/nyuzolamba.pc.in >"$(to)/lib/pkgconfig/nyuzolamba.pc"
-	chmod 644 "$(to)/lib/pkgconfig/nyuzolamba.pc"
-
-uninstall:
-	rm -f "$(to)/lib/libnyuzolamba.a" "$(to)/include/nyuzolamba.h" "$(to)/lib/pkgconfig/nyuzolamba.pc"
+uninstall: checked
+	@include/install uninstall

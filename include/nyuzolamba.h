@@ -33,6 +33,12 @@
 extern "C" {
 #endif
 
+/* The version, counted as CHANGELOG.md says. It stands here alone: `make install` hands it to pkg-config. */
+#define NYUZOLAMBA_VERSION_MAJOR 1
+#define NYUZOLAMBA_VERSION_MINOR 0
+#define NYUZOLAMBA_VERSION_PATCH 0
+#define NYUZOLAMBA_VERSION "1.0.0"
+
 /* What comes back. The numbers are those of document 01; 8, 9 and 10 belong to requests that the C face does not have or cannot reach. */
 enum {
     NYUZOLAMBA_DONE = 0,      /* done */

@@ -10,7 +10,7 @@ int main(void)
         printf("refused, number %u\n", (unsigned)number);
         return 1;
     }
-    for (int i = 0; i < 2; i++) {
+    for (size_t i = 0; i < 2; i++) {
         uint64_t unit = nyuzolamba_word(product, 2 * i), sign = nyuzolamba_word(product, 2 * i + 1);
         for (int j = 0; j < 2; j++)
             printf("%d ", (int)(unit >> j & 1) + (int)(sign >> j & 1));
