@@ -61,9 +61,10 @@ c_host() {
 # The library allocates nothing: leaks would be the host's own, and looking for them fails in some containers.
 export ASAN_OPTIONS=${ASAN_OPTIONS:-detect_leaks=0}
 
-# build_c NAME SOURCE..: a C host with the archive. On x86-64 the sanitizers watch it; elsewhere it is linked statically, for the emulator.
+# build_c NAME SOURCE..: a C host with the archive. On x86-64 the sanitizers watch it; elsewhere it is linked statically, for the emulator, and
+# the C library and the compiler watch copies and the stack.
 build_c() {
-    local more=-static
+    local more='-static -D_FORTIFY_SOURCE=2 -fstack-protector-strong'
     [ "$machine" = x86_64 ] && more='-fsanitize=address,undefined -fno-sanitize-recover=all'
     compile_c "$more" "$@"
 }
@@ -77,6 +78,10 @@ compile_c() { # FLAGS NAME SOURCE..
     # shellcheck disable=SC2086
     $cc -std=c99 -O2 -g -Wall -Wextra -pedantic -Werror $more -I "$root/include" -o "$out/$name" "$@" "$archive"
 }
+
+# The C host that keeps jobs; store_sources are also what the kill test builds.
+store_sources=("$hosts"/c/{store,job,ledger,own}.c)
+build_store() { build_c store "${store_sources[@]}"; }
 
 # build_rust NAME SOURCE [ARCHIVE]: a Rust host with an archive; without a name, that of the C face.
 build_rust() {

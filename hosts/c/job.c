@@ -9,20 +9,35 @@
 #include <stdio.h>
 #include <stdlib.h>
 #include <string.h>
+#include <sys/stat.h>
 #include <unistd.h>
 
 enum { GUARD = 32, ROOM = 4096 };
 static const char MAGIC[8] = "nyzjob1\n";
 
+static void say(const char *format, va_list values)
+{
+    fputs("store: ", stderr);
+    vfprintf(stderr, format, values);
+    fputc('\n', stderr);
+}
+
+void stop(int status, const char *format, ...)
+{
+    va_list values;
+    va_start(values, format);
+    say(format, values);
+    va_end(values);
+    exit(status);
+}
+
 void fail(const char *format, ...)
 {
     va_list values;
     va_start(values, format);
-    fputs("store: ", stderr);
-    vfprintf(stderr, format, values);
-    fputc('\n', stderr);
+    say(format, values);
     va_end(values);
-    exit(1);
+    exit(WRONG);
 }
 
 /* ---- buffers */
@@ -53,7 +68,7 @@ static int guards_stand(const struct buffer *b)
 {
     size_t i;
     for (i = 0; i < GUARD; i++)
-        if (b->start[i - GUARD] != guard_byte(i) || b->start[b->bytes + i] != guard_byte(i + 7))
+        if ((b->start - GUARD)[i] != guard_byte(i) || b->start[b->bytes + i] != guard_byte(i + 7))
             return 0;
     return 1;
 }
@@ -89,6 +104,12 @@ void site_request(uint64_t seed, uint64_t site, struct digits *a, struct digits 
     *width = (unsigned)(scramble(seed, 1003, site) % 9);
     own_random(a, size[0], size[1], scramble(seed, 1004, site));
     own_random(b, size[1], size[2], scramble(seed, 1005, site));
+}
+
+/* The width that a request means. */
+static unsigned meant(unsigned width)
+{
+    return width == 0 ? NYUZOLAMBA_WIDTH_DEFAULT : width;
 }
 
 void job_open(struct job *job, uint64_t seed, uint64_t site)
@@ -149,6 +170,27 @@ int job_ended(const struct job *job)
     return nyuzolamba_word(job->buffer[RECORD].start, NYUZOLAMBA_ENDED) == 1;
 }
 
+int job_stands(const struct job *job, uint64_t seed)
+{
+    struct digits a, b;
+    const uint8_t *record = job->buffer[RECORD].start;
+    uint8_t bytes[MOST * 16];
+    unsigned width;
+    uint64_t total;
+    site_request(seed, job->site, &a, &b, &width);
+    if (nyuzolamba_word(record, NYUZOLAMBA_A_ROWS) != a.rows || nyuzolamba_word(record, NYUZOLAMBA_MIDDLE) != a.columns ||
+        nyuzolamba_word(record, NYUZOLAMBA_B_COLUMNS) != b.columns || nyuzolamba_word(record, NYUZOLAMBA_JOB_WIDTH) != meant(width))
+        return 0;
+    own_pack(&a, bytes);
+    if (memcmp(bytes, job->buffer[A].start, job->buffer[A].bytes) != 0)
+        return 0;
+    own_pack(&b, bytes);
+    if (memcmp(bytes, job->buffer[B].start, job->buffer[B].bytes) != 0)
+        return 0;
+    total = own_total(&a, meant(width));
+    return job_steps(job) <= total && job->finished == (job->turns > 0 && job_steps(job) == total);
+}
+
 int job_right(const struct job *job, uint64_t seed)
 {
     struct digits a, b, product;
@@ -166,7 +208,7 @@ uint64_t job_total(const struct job *job, uint64_t seed)
     struct digits a, b;
     unsigned width;
     site_request(seed, job->site, &a, &b, &width);
-    return own_total(&a, width == 0 ? NYUZOLAMBA_WIDTH_DEFAULT : width);
+    return own_total(&a, meant(width));
 }
 
 /* ---- the job's file: words and buffers, then a check sum over all of it */
@@ -190,6 +232,18 @@ void sync_folder(const char *folder)
         fail("%s: %s", folder, strerror(errno));
 }
 
+void write_all(int fd, const void *bytes, size_t count, const char *path)
+{
+    size_t done = 0;
+    while (done < count) {
+        ssize_t wrote = write(fd, (const uint8_t *)bytes + done, count - done);
+        if (wrote < 0 && errno != EINTR)
+            fail("%s: %s", path, strerror(errno));
+        if (wrote > 0)
+            done += (size_t)wrote;
+    }
+}
+
 static uint64_t check_sum(const uint8_t *bytes, size_t count)
 {
     uint64_t sum = 0xcbf29ce484222325u;
@@ -204,7 +258,7 @@ enum { HEAD = 8 + 4 * 8 + 8 * BUFFERS };
 void job_save(const struct job *job, const char *folder)
 {
     char path[ROOM], beside[ROOM];
-    size_t size = HEAD, at = HEAD, done = 0;
+    size_t size = HEAD, at = HEAD;
     uint8_t *bytes;
     int fd, i;
     for (i = 0; i < BUFFERS; i++)
@@ -228,52 +282,98 @@ void job_save(const struct job *job, const char *folder)
     fd = open(beside, O_WRONLY | O_CREAT | O_TRUNC, 0644);
     if (fd < 0)
         fail("%s: %s", beside, strerror(errno));
-    while (done < size + 8) {
-        ssize_t wrote = write(fd, bytes + done, size + 8 - done);
-        if (wrote < 0 && errno != EINTR)
-            fail("%s: %s", beside, strerror(errno));
-        if (wrote > 0)
-            done += (size_t)wrote;
-    }
+    write_all(fd, bytes, size + 8, beside);
     if (fsync(fd) != 0 || close(fd) != 0 || rename(beside, path) != 0)
         fail("%s: %s", beside, strerror(errno));
     sync_folder(folder);
     free(bytes);
 }
 
-int job_load(struct job *job, const char *folder, uint64_t site)
+/* The longest file that job_save writes, and a byte more, by which a longer one is known. */
+enum { LARGEST = HEAD + NYUZOLAMBA_RECORD_BYTES + 3 * MOST * 16 + 256 * 16 + 8, TOO_LARGE = LARGEST + 1 };
+
+/* Reads a file, or of a longer one TOO_LARGE bytes. Gives 0 if there is none. */
+static int file_read(const char *path, uint8_t *bytes, size_t *size)
 {
-    char path[ROOM];
-    uint8_t bytes[HEAD + 56 + 3 * MOST * 16 + 256 * 16 + 8];
-    size_t size, at = HEAD;
-    FILE *file;
-    int i;
-    path_of(path, sizeof path, folder, "site-%llu.job", (unsigned long long)site);
-    file = fopen(path, "rb");
+    struct stat found;
+    FILE *file = fopen(path, "rb");
     if (file == NULL) {
         if (errno != ENOENT)
             fail("%s: %s", path, strerror(errno));
         return 0;
     }
-    size = fread(bytes, 1, sizeof bytes, file);
+    if (fstat(fileno(file), &found) != 0 || !S_ISREG(found.st_mode))
+        fail("%s: not a file", path);
+    *size = fread(bytes, 1, TOO_LARGE, file);
     if (ferror(file) || fclose(file) != 0)
         fail("%s: not read", path);
-    if (size < HEAD + 8 || memcmp(bytes, MAGIC, 8) != 0 || nyuzolamba_word(bytes + size - 8, 0) != check_sum(bytes, size - 8))
+    return 1;
+}
+
+/* Whether the file is as long as its lengths say, and these are the ones that its record gives. No number of the file is added to another
+ * before it is known to be small. */
+static int lengths_fit(const uint8_t *bytes, size_t size)
+{
+    const uint8_t *record = bytes + HEAD;
+    size_t wanted[BUFFERS], all = HEAD + 8, i;
+    uint64_t m, l, n, width;
+    if (size < HEAD + NYUZOLAMBA_RECORD_BYTES + 8)
+        return 0;
+    m = nyuzolamba_word(record, NYUZOLAMBA_A_ROWS);
+    l = nyuzolamba_word(record, NYUZOLAMBA_MIDDLE);
+    n = nyuzolamba_word(record, NYUZOLAMBA_B_COLUMNS);
+    width = nyuzolamba_word(record, NYUZOLAMBA_JOB_WIDTH);
+    if (m > MOST || l > MOST || n > MOST || width == 0 || width > NYUZOLAMBA_WIDTH_MOST)
+        return 0;
+    wanted[RECORD] = NYUZOLAMBA_RECORD_BYTES;
+    wanted[A] = nyuzolamba_bytes(m, l);
+    wanted[B] = nyuzolamba_bytes(l, n);
+    wanted[TABLE] = nyuzolamba_table_bytes(width, n);
+    wanted[PRODUCT] = nyuzolamba_bytes(m, n);
+    for (i = 0; i < BUFFERS; i++) {
+        if (nyuzolamba_word(bytes, 5 + i) != wanted[i])
+            return 0;
+        all += wanted[i];
+    }
+    return size == all;
+}
+
+/* Whether head and record agree: both say what the last turn made, and whether the list has ended; before the first turn nothing was made. */
+static int words_fit(const struct job *job)
+{
+    uint64_t made = nyuzolamba_word(job->buffer[RECORD].start, NYUZOLAMBA_STEPS_MADE);
+    uint64_t ended = nyuzolamba_word(job->buffer[RECORD].start, NYUZOLAMBA_ENDED);
+    if (job->turns == 0 && (job_steps(job) != 0 || ended != 0))
+        return 0;
+    return job->finished <= 1 && job->finished == ended && job->sold == made && made <= job_steps(job);
+}
+
+int job_load(struct job *job, const char *folder, uint64_t site)
+{
+    char path[ROOM];
+    uint8_t bytes[TOO_LARGE];
+    size_t size, at = HEAD, i;
+    path_of(path, sizeof path, folder, "site-%llu.job", (unsigned long long)site);
+    if (!file_read(path, bytes, &size))
+        return 0;
+    if (size < HEAD + 8 || size > LARGEST || memcmp(bytes, MAGIC, 8) != 0 ||
+        nyuzolamba_word(bytes + size - 8, 0) != check_sum(bytes, size - 8))
         fail("%s: not whole", path);
+    if (!lengths_fit(bytes, size))
+        fail("%s: its lengths are not those of its record", path);
     memset(job, 0, sizeof *job);
     job->site = nyuzolamba_word(bytes, 1);
     job->turns = nyuzolamba_word(bytes, 2);
     job->sold = nyuzolamba_word(bytes, 3);
     job->finished = nyuzolamba_word(bytes, 4);
     for (i = 0; i < BUFFERS; i++) {
-        uint64_t part = nyuzolamba_word(bytes, 5 + (size_t)i);
-        if (part > size - 8 - at)
-            fail("%s: not whole", path);
-        job->buffer[i] = buffer_new((size_t)part);
-        memcpy(job->buffer[i].start, bytes + at, (size_t)part);
-        at += (size_t)part;
+        job->buffer[i] = buffer_new((size_t)nyuzolamba_word(bytes, 5 + i));
+        memcpy(job->buffer[i].start, bytes + at, job->buffer[i].bytes);
+        at += job->buffer[i].bytes;
     }
-    if (at != size - 8 || job->site != site)
-        fail("%s: not whole", path);
+    if (job->site != site)
+        fail("%s: the job of another site", path);
+    if (!words_fit(job))
+        fail("%s: its head and its record do not agree", path);
     return 1;
 }

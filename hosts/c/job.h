@@ -32,6 +32,9 @@ void job_turn(struct job *job, uint32_t budget);
 uint64_t job_steps(const struct job *job);
 int job_ended(const struct job *job);
 
+/* Whether sizes, width, A and B are what the site sent, and the steps done are no more than its list has, all of them where the job is finished. */
+int job_stands(const struct job *job, uint64_t seed);
+
 /* Whether the product is, byte for byte, the schoolbook product of what the site sent. */
 int job_right(const struct job *job, uint64_t seed);
 
@@ -41,16 +44,24 @@ uint64_t job_total(const struct job *job, uint64_t seed);
 /* Puts the job's file in place of the last one, all or nothing. */
 void job_save(const struct job *job, const char *folder);
 
-/* Reads the job's file: 1, or 0 if there is none. Ends the program if there is one that is not whole. */
+/* Reads the job's file: 1, or 0 if there is none. Ends the program if there is one that no store wrote for this site, whatever its bytes are: after
+ * it every buffer has the length that the record gives. */
 int job_load(struct job *job, const char *folder, uint64_t site);
 
 void job_free(struct job *job);
 
-/* Says what is wrong and ends the program with status 1. */
+/* How the program ends where it does not end well: something was found wrong; it was called wrongly; another one has the folder. */
+enum { WRONG = 1, MISUSED = 2, IN_USE = 3 };
+
+/* Says in one sentence what is wrong and ends the program with this status; fail ends it with WRONG. */
+void stop(int status, const char *format, ...);
 void fail(const char *format, ...);
 
 /* A name in a folder. */
 void path_of(char *path, size_t room, const char *folder, const char *format, ...);
+
+/* Writes all of it. Ends the program if that fails. */
+void write_all(int fd, const void *bytes, size_t count, const char *path);
 
 /* So that a rename in the folder outlives a crash of the machine. */
 void sync_folder(const char *folder);

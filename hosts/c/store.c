@@ -8,6 +8,9 @@
  * and which turn this was) takes the place of the old one by a rename; then the ledger gets its line. The store may be killed at any moment.
  * Killed before the rename, the turn was never given: it is given again from the old file. Killed between the two, the file is one turn ahead of
  * the ledger, and the line is written at the next start. So no step is sold twice and none is lost.
+ *
+ * A folder belongs to one store at a time: run and audit lock its ledger. Status 0: all is well; 1: something was found wrong; 2: called wrongly;
+ * 3: another store has the folder. On 1 to 3 standard error says why.
  */
 #define _POSIX_C_SOURCE 200809L
 #include "job.h"
@@ -20,7 +23,8 @@
 #include <sys/stat.h>
 #include <time.h>
 
-enum { OPEN = 16 };
+/* Jobs that are open at a time; sites of a folder, for each of which the ledger takes sixteen bytes of memory. */
+enum { OPEN = 16, SITES_MOST = 1000000 };
 
 static double now(void)
 {
@@ -29,12 +33,15 @@ static double now(void)
     return (double)t.tv_sec + (double)t.tv_nsec / 1e9;
 }
 
-static uint64_t number(const char *text)
+/* A number in decimal digits and nothing else, from `least` to `most`. */
+static uint64_t number(const char *name, const char *text, uint64_t least, uint64_t most)
 {
-    char *end;
-    unsigned long long value = strtoull(text, &end, 10);
-    if (*text == 0 || *end != 0)
-        fail("%s is no number", text);
+    uint64_t value = 0;
+    const char *at = text;
+    while (*at >= '0' && *at <= '9' && value <= (UINT64_MAX - (uint64_t)(*at - '0')) / 10)
+        value = 10 * value + (uint64_t)(*at++ - '0');
+    if (at == text || *at != 0 || value < least || value > most)
+        stop(MISUSED, "%s has to be a number from %llu to %llu, in decimal digits", name, (unsigned long long)least, (unsigned long long)most);
     return value;
 }
 
@@ -68,9 +75,13 @@ static void sell(struct job *job, struct ledger *ledger, const char *folder, uin
 static void take_up(struct job *job, struct ledger *ledger, const char *folder, uint64_t seed, uint64_t site)
 {
     if (!job_load(job, folder, site)) {
+        if (ledger->turns[site] != 0)
+            fail("site %llu: it has no file, and turns in the ledger", (unsigned long long)site);
         job_open(job, seed, site);
         job_save(job, folder);
-    } else if (job->turns == ledger->turns[site] + 1) {
+    } else if (!job_stands(job, seed)) {
+        fail("site %llu: the file holds another job than the site's", (unsigned long long)site);
+    } else if (job->turns == ledger->turns[site] + 1 && job_steps(job) - job->sold == ledger->steps[site]) {
         fprintf(stderr, "made up for: site %llu, turn %llu\n", (unsigned long long)site, (unsigned long long)job->turns);
         ledger_write(ledger, site, job->turns, job_steps(job) - job->sold, job->sold);
     }
@@ -78,13 +89,16 @@ static void take_up(struct job *job, struct ledger *ledger, const char *folder, 
         fail("site %llu: file and ledger do not agree", (unsigned long long)site);
 }
 
-/* Without a site there is nothing to be right about. */
-static uint64_t site_count(const char *text)
+/* Makes the folder, if it is told to and there is none. */
+static void folder_stands(const char *folder, int make)
 {
-    uint64_t sites = number(text);
-    if (sites == 0)
-        fail("no sites, nothing is compared");
-    return sites;
+    struct stat found;
+    if (make && mkdir(folder, 0755) != 0 && errno != EEXIST)
+        fail("the folder %s cannot be made: %s", folder, strerror(errno));
+    if (stat(folder, &found) != 0)
+        fail("the folder %s: %s", folder, strerror(errno));
+    if (!S_ISDIR(found.st_mode))
+        fail("%s is not a folder", folder);
 }
 
 static int run(const char *folder, uint64_t sites, uint64_t seed, uint64_t most)
@@ -94,9 +108,8 @@ static int run(const char *folder, uint64_t sites, uint64_t seed, uint64_t most)
     uint64_t next = 0, finished = 0, turns, steps;
     double start;
     unsigned open = 0, i;
-    if (mkdir(folder, 0755) != 0 && errno != EEXIST)
-        fail("%s: %s", folder, strerror(errno));
-    ledger_open(&ledger, folder, sites);
+    folder_stands(folder, 1);
+    ledger_open(&ledger, folder, sites, 1);
     start = now();
     turns = ledger.all_turns;
     steps = ledger.all_steps;
@@ -134,11 +147,14 @@ static int audit(const char *folder, uint64_t sites, uint64_t seed)
     struct ledger ledger;
     struct job job;
     uint64_t site, lists = 0;
-    ledger_open(&ledger, folder, sites);
+    folder_stands(folder, 0);
+    ledger_open(&ledger, folder, sites, 0);
     for (site = 0; site < sites; site++) {
         uint64_t total;
         if (!job_load(&job, folder, site) || !job.finished)
             fail("site %llu is not finished", (unsigned long long)site);
+        if (!job_stands(&job, seed))
+            fail("site %llu: the file holds another job than the site's", (unsigned long long)site);
         total = job_total(&job, seed);
         if (!job_right(&job, seed))
             fail("site %llu: the product is not the schoolbook one", (unsigned long long)site);
@@ -158,10 +174,15 @@ static int audit(const char *folder, uint64_t sites, uint64_t seed)
 
 int main(int count, char **words)
 {
-    if (count == 6 && strcmp(words[1], "run") == 0)
-        return run(words[2], site_count(words[3]), number(words[4]), number(words[5]));
-    if (count == 5 && strcmp(words[1], "audit") == 0)
-        return audit(words[2], site_count(words[3]), number(words[4]));
-    fputs("usage: store run FOLDER SITES SEED MOST | store audit FOLDER SITES SEED\n", stderr);
-    return 2;
+    int running = count == 6 && strcmp(words[1], "run") == 0;
+    uint64_t sites, seed;
+    if (!running && !(count == 5 && strcmp(words[1], "audit") == 0)) {
+        fputs("usage: store run FOLDER SITES SEED MOST | store audit FOLDER SITES SEED\n", stderr);
+        return MISUSED;
+    }
+    if (words[2][0] == 0)
+        stop(MISUSED, "FOLDER has to be a name");
+    sites = number("SITES", words[3], 1, SITES_MOST);
+    seed = number("SEED", words[4], 0, UINT64_MAX);
+    return running ? run(words[2], sites, seed, number("MOST", words[5], 1, UINT32_MAX)) : audit(words[2], sites, seed);
 }
