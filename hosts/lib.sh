@@ -76,7 +76,7 @@ compile_c() { # FLAGS NAME SOURCE..
     local more=$1 name=$2
     shift 2
     # shellcheck disable=SC2086
-    $cc -std=c99 -O2 -g -Wall -Wextra -pedantic -Werror $more -I "$root/include" -o "$out/$name" "$@" "$archive"
+    $cc -std=c99 -O2 -g -Wall -Wextra -Wconversion -pedantic -Werror $more -I "$root/include" -o "$out/$name" "$@" "$archive"
 }
 
 # The C host that keeps jobs; store_sources are also what the kill test builds.
