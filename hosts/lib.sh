@@ -1,10 +1,19 @@
 # Shared by the scripts of hosts/: where things are, what must be installed, how compiled Rattle is run on this machine. Sourced by bash.
 export LC_ALL=C
-hosts=$(cd "$(dirname "${BASH_SOURCE[0]}")" && pwd)
+hosts=$(dirname "$(readlink -f "${BASH_SOURCE[0]}")")
 root=$(dirname "$hosts")
+. "$hosts/kit.sh"
 out=$root/target/hosts
 machine=$(uname -m)
 mkdir -p "$out"
+
+# For scripts that people call, with any of the three streams closed. A closed input is an empty one; a closed output is said before minutes are spent,
+# and before a Rust program takes it for one that swallows all.
+open_streams() {
+    true 3>&2 || exec 2>/dev/null
+    { true 3<&0; } 2>/dev/null || exec </dev/null
+    { true 3>&1; } 2>/dev/null || { echo "${0##*/}: standard output is closed, and nothing can be written" >&2; return 1; }
+}
 
 # need PACKAGE..: installs those of them that Debian does not have installed yet.
 need() {
@@ -25,15 +34,17 @@ need() {
     }
 }
 
-# The words before a program that rt built: none on x86-64; elsewhere the kit's emulator, loader and C library, as rt itself runs it.
+# Sets the array runner, the words before a program that rt built: none on x86-64; elsewhere the kit's emulator, loader and C library, as rt itself
+# runs it.
 program_runner() {
+    local kit tools
+    runner=()
     [ "$machine" = x86_64 ] && return 0
-    local rt kit tools
-    rt=$(command -v rt) || { echo 'rt, the command of the Rattle kit, is not on the PATH' >&2; return 1; }
-    kit=${RATTLE_HOME:-$(dirname "$(dirname "$(readlink -f "$rt")")")}
+    have_rt || return 1
+    kit=${RATTLE_HOME:-$(dirname "$(dirname "$(readlink -f "$(command -v rt)")")")}
     tools=$kit/on/$machine/toolchain
     [ -x "$tools/bin/qemu-x86_64" ] || { echo "the kit has no emulator at $tools" >&2; return 1; }
-    echo "$tools/bin/qemu-x86_64 $tools/lib/ld-linux-x86-64.so.2 --library-path $tools/lib"
+    runner=("$tools/bin/qemu-x86_64" "$tools/lib/ld-linux-x86-64.so.2" --library-path "$tools/lib")
 }
 
 # A Rust compiler for programs of this machine: the one at hand, else Debian's.
@@ -100,7 +111,9 @@ build_rust() {
 }
 
 # up_to_date FILE: it is there, and no source of the crates is newer.
-up_to_date() { [ -f "$1" ] && [ -z "$(find "$root/crates" -name '*.rt' -newer "$1" -print -quit)" ]; }
+up_to_date() {
+    [ -f "$1" ] && [ -z "$(find "$root/crates" "$root/crates.txt" \( -name '*.rt' -o -name '*.antt' -o -name crates.txt \) -newer "$1" -print -quit)" ]
+}
 
 # staticlib CRATE: proves a crate and makes its archive.
 staticlib() {
@@ -115,17 +128,12 @@ have_archive() { up_to_date "$archive" || make_archive; }
 make_word_archive() { [ -n "${NYUZOLAMBA_WORDCALLS:-}" ] || staticlib wordcalls; }
 have_word_archive() { up_to_date "$word_archive" || make_word_archive; }
 
-# Proves the program multiply and makes it, unless NYUZOLAMBA_PROGRAM names one (with the words before it).
-make_program() {
-    [ -n "${NYUZOLAMBA_PROGRAM:-}" ] && return 0
-    (cd "$root" && rt check multiply) >"$out/program.log" 2>&1 || { tail -n 20 "$out/program.log" >&2; return 1; }
+# The tool between digits and text, for this machine: made if it is missing or older than its sources, beside and then moved, since others may run it.
+digits=$out/digits
+have_digits() {
+    local rustc sources=("$hosts/rust/digits" "$hosts/rust/common" "$hosts/rust/second/src/frame.rs")
+    [ -x "$digits" ] && [ -z "$(find "${sources[@]}" -name '*.rs' -newer "$digits" -print -quit)" ] && return 0
+    rustc=$(native_rustc) && "$rustc" --edition 2021 -O -o "$digits.$$" "$hosts/rust/digits/src/main.rs" && mv "$digits.$$" "$digits"
 }
 
-# The words that run multiply; it is made if it is not there.
-program_words() {
-    local runner
-    [ -n "${NYUZOLAMBA_PROGRAM:-}" ] && { echo "$NYUZOLAMBA_PROGRAM"; return; }
-    up_to_date "$root/target/bin/multiply" || make_program || return 1
-    runner=$(program_runner) || return 1
-    echo "$runner $root/target/bin/multiply"
-}
+. "$hosts/program.sh"
