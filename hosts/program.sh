@@ -20,13 +20,28 @@ have_program() {
     program=("${runner[@]}" "$built")
 }
 
-# make_program [WHY]: proves the program and makes it, with a line on standard error as each of its crates ends.
+# make_program [WHY]: proves the program and makes it, one at a time, since two would write over each other's files. rt has the lock too, so that one
+# which goes on without us is waited for.
 make_program() {
-    local crates ended=0 start=$SECONDS began=$out/program.began unproved=()
+    local status
     [ -n "${NYUZOLAMBA_PROGRAM:-}" ] && return 0
-    have_rt || return 1
+    have_rt && exec 9>"$out/program.lock" || return 1
+    if ! flock -n 9; then
+        echo 'another ./multiply is proving and building the program: waiting for it' >&2
+        until flock -n 9; do sleep 0.5; done
+    fi
+    # Where there was a reason, the other may have done it.
+    { [ -n "${1:-}" ] && up_to_date "$built"; } || make_locked "${1:-multiply is asked for}"
+    status=$?
+    exec 9>&-
+    return "$status"
+}
+
+# make_locked WHY: with a line on standard error as each of its crates ends.
+make_locked() {
+    local crates ended=0 start=$SECONDS began=$out/program.began unproved=()
     crates=$(crates_of multiply) || return 1
-    echo "${1:-multiply is asked for}: its $crates crates are proved and it is built, this once; from nothing that takes some minutes" >&2
+    echo "$1: its $crates crates are proved and it is built, this once; from nothing that takes some minutes" >&2
     : >"$began" || return 1
     if follow "$root" "$out/program.log" progress check multiply && [ -f "$built" ]; then
         # rt goes by content: where nothing has changed it leaves the program's time as it was, and that would be older than a source for ever.

@@ -4,7 +4,7 @@
 rows() { printf '%b' "$2" >"$1"; }
 
 products() {
-    mkdir "$tree/some files" && cd "$tree/some files" || return 1
+    mkdir "$tree/some files" && cd "$tree/some files" || exit 1
     rows a '1 2 0\n0 2 1\n' && rows b '1 0\n2 1\n1 1\n' && rows wide '2\n' && rows 'c d' '1\n2\n' && rows blank '\n'
     printf '%0129d\n' 0 >row129
     printf '%01025d\n' 0 >row1025
@@ -32,7 +32,7 @@ products() {
 
 there_and_back() {
     local two=$'00020002\n00000000000000030000000000000002\n00000000000000020000000000000000\n' form
-    cd "$tree/some files" || return 1
+    cd "$tree/some files" || exit 1
     input=/dev/null
     try 'to text' 0 "$(cat "$sample")"$'\n' '' ../digits to-text a b
     input=$sample
@@ -73,7 +73,7 @@ refused() {
 
 faults() {
     local row=0000000000000001 none=0000000000000000
-    cd "$tree/some files" || return 1
+    cd "$tree/some files" || exit 1
     input=/dev/null
     refused to-text 'line 3 has 1 digit, and line 1 has 2 digits' '12\n02\n1\n'
     refused to-text 'line 4 has 3 digits, and line 2 has 2 digits' '#\n12\n02\n111\n'

@@ -1,7 +1,7 @@
 # The trials of what is shown while rt works, with a rt of our own, which waits to be told to go on. Sourced by run.
 
 stub() {
-    mkdir "$room/stub" || return 1
+    mkdir "$room/stub" || exit 1
     cat >"$room/stub/rt" <<'END'
 #!/usr/bin/env bash
 here=$(dirname "$0")
@@ -61,8 +61,8 @@ gate() {
 
 gates() {
     local shown=$'rt: cells proved (1 s)\nrt: must-fail cells/one: refused, as it must be (1 s)\nrt: rows NOT PROVED (exit 1, 2 s)\nrt: ok' name part
-    mkdir -p "$room/gate/hosts" "$room/gate/.ci" "$room/gate/target/log" && cd "$room/gate" || return 1
-    cp "$root"/hosts/*.sh hosts && cp "$root/.ci/run" .ci && echo 'rt: stale proved (9 s)' >target/log/stale.out || return 1
+    mkdir -p "$room/gate/hosts" "$room/gate/.ci" "$room/gate/target/log" && cd "$room/gate" || exit 1
+    cp "$root"/hosts/*.sh hosts && cp "$root/.ci/run" .ci && echo 'rt: stale proved (9 s)' >target/log/stale.out || exit 1
     for name in .ci/promises .ci/refusals hosts/run; do printf '#!/bin/sh\n' >"$name" && chmod +x "$name"; done
     part=' s  proofs, must-fail edits and programs (rt ci)'
     gate '4 passed, 0 failed' 0 "$room/right"
@@ -92,16 +92,23 @@ ended() {
     local got
     { wait "$pid"; } 2>/dev/null
     got=$?
-    if ! judge "$1" fits "$got:$(<"$room/out"):$(<"$room/err")" "$2::$3"; then
-        printf '  status %s; it printed and said:\n' "$got"
-        head -c 600 "$room/out" "$room/err"
-    fi
+    judge "$1" fits "$got:$(<"$room/out"):$(<"$room/err")" "$2::$3" || tell "$got" "$2"
     judge "$1: rt and what it started has ended" gone
+}
+
+# A second one waits for the first.
+second_waits() {
+    local other
+    ./multiply <"$sample" >/dev/null 2>"$room/err2" &
+    other=$!
+    judge 'a second one waits' started "$room/err2" '^another ./multiply is proving and building the program: waiting for it$' "$other"
+    kill -TERM "$other"
+    { wait "$other"; } 2>/dev/null
 }
 
 builds() {
     local pid
-    cd "$room/bare" || return 1
+    cd "$room/bare" || exit 1
     building
     touch "$room/stub/go"
     ended 'rt that fails' 2 $'*\n  2 of *rows NOT PROVED (exit 1, 2 s)\nrows:\n    a line of the prover: error\nmultiply is not built*'
@@ -110,6 +117,7 @@ builds() {
     kill -KILL "$(cut -d ' ' -f 2 "$room/stub/started")"
     ended 'rt that is killed' 2 '*multiply is not built*'
     building
+    second_waits
     kill -INT -- "-$pid"
     ended 'control-C' 130 '*Sixty-four cells at once'
     building

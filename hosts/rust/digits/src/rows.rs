@@ -39,7 +39,7 @@ fn count(n: usize, what: &str) -> String {
 /// The lines, without what ends them: byte 10, or CR LF. What follows the last byte 10 is a line only if there is something.
 fn lines(bytes: &[u8]) -> Vec<&[u8]> {
     let mut lines: Vec<&[u8]> = bytes.split(|byte| *byte == b'\n').collect();
-    if lines.last().map_or(false, |last| last.is_empty()) {
+    if matches!(lines.last(), Some(last) if last.is_empty()) {
         lines.pop();
     }
     lines.into_iter().map(|line| line.strip_suffix(b"\r").unwrap_or(line)).collect()
