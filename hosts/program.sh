@@ -26,7 +26,7 @@ make_program() {
     local status
     [ -n "${NYUZOLAMBA_PROGRAM:-}" ] && return 0
     have_rt && exec 9>"$out/program.lock" || return 1
-    if ! flock -n 9; then
+    if command -v flock >/dev/null && ! flock -n 9; then
         echo 'another ./multiply is proving and building the program: waiting for it' >&2
         until flock -n 9; do sleep 0.5; done
     fi
@@ -43,11 +43,15 @@ make_locked() {
     crates=$(crates_of multiply) || return 1
     echo "$1: its $crates crates are proved and it is built, this once; from nothing that takes some minutes" >&2
     : >"$began" || return 1
+    # rt goes by its stamps and not by what is there: with a stamp and without the program it would make none.
+    [ -f "$built" ] || rm -f "$root/target/stamp/multiply"
     if follow "$root" "$out/program.log" progress check multiply && [ -f "$built" ]; then
         # rt goes by content: where nothing has changed it leaves the program's time as it was, and that would be older than a source for ever.
         touch -r "$began" "$built"
         echo "multiply is proved and built, after $((SECONDS - start)) s" >&2
     else
+        # A program that was made, and whose run then failed, is no program.
+        [ ! "$built" -nt "$began" ] || rm -f "$built"
         why_not_made >&2
         return 1
     fi

@@ -8,7 +8,7 @@ here=$(dirname "$0")
 case $1 in ci | check) ;; *) exit 0 ;; esac
 # Long enough for a look at what an earlier run has left.
 sleep 1
-mkdir -p target/log target/must-fail/cells
+mkdir -p target/log target/must-fail/cells target/bin
 [ "$1" = check ] || rm -f target/log/*
 echo 'rt: cells proved (1 s)' >target/log/cells.out
 echo 'rt: must-fail cells/one: refused, as it must be (1 s)' >target/must-fail/cells/one.out
@@ -16,6 +16,7 @@ sleep 600 &
 echo "$! $$" >"$here/started"
 until [ -e "$here/go" ]; do sleep 0.1; done
 kill "$!"
+touch target/bin/multiply
 printf 'a line of the prover: error\nrt: rows NOT PROVED (exit 1, 2 s)\n' >target/log/rows.out
 cat target/log/{cells,rows}.out target/must-fail/cells/one.out
 printf 'rt: ok\n%s\n' "$(cat "$here/counts")"
@@ -77,7 +78,8 @@ gates() {
 # building: starts multiply with the stub in the background, in a process group of its own; sets pid.
 building() {
     rm -rf "$room"/stub/{go,started} target
-    mkdir -p target/log && echo 'rt: texts proved (9 s)' >target/log/texts.out && touch -d '1 hour ago' target/log/texts.out
+    mkdir -p target/log target/stamp && touch target/stamp/multiply
+    echo 'rt: texts proved (9 s)' >target/log/texts.out && touch -d '1 hour ago' target/log/texts.out
     echo 1 >"$room/stub/status"
     : >"$room/err"
     set -m
@@ -112,6 +114,8 @@ builds() {
     building
     touch "$room/stub/go"
     ended 'rt that fails' 2 $'*\n  2 of *rows NOT PROVED (exit 1, 2 s)\nrows:\n    a line of the prover: error\nmultiply is not built*'
+    judge 'a program of a run that failed' [ ! -e target/bin/multiply ]
+    judge 'a stamp without its program' [ ! -e target/stamp/multiply ]
     judge 'nothing of an earlier run' [ "$(grep -c texts "$room/err")" -eq 0 ]
     building
     kill -KILL "$(cut -d ' ' -f 2 "$room/stub/started")"
