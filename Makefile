@@ -24,7 +24,7 @@ checked:
 
 # The archive gets the time at which its proof began: a source that was changed since then is newer.
 $(archive): $(sources) | $(if $(filter install,$(MAKECMDGOALS)),checked)
-	@command -v rt >/dev/null || { echo 'rt, the command of the Rattle kit, is not on the PATH' >&2; exit 1; }
+	@bash -c '. hosts/kit.sh && have_rt'
 	@mkdir -p target && touch target/archive-began
 	rt staticlib cface
 	@touch -r target/archive-began $@

@@ -129,11 +129,13 @@ make_word_archive() { [ -n "${NYUZOLAMBA_WORDCALLS:-}" ] || staticlib wordcalls;
 have_word_archive() { up_to_date "$word_archive" || make_word_archive; }
 
 # The tool between digits and text, for this machine: made if it is missing or older than its sources, beside and then moved, since others may run it.
+# It is for people: nothing is installed on their machine by the way.
 digits=$out/digits
 have_digits() {
-    local rustc sources=("$hosts/rust/digits" "$hosts/rust/common" "$hosts/rust/second/src/frame.rs")
+    local sources=("$hosts/rust/digits" "$hosts/rust/common" "$hosts/rust/second/src/frame.rs")
     [ -x "$digits" ] && [ -z "$(find "${sources[@]}" -name '*.rs' -newer "$digits" -print -quit)" ] && return 0
-    rustc=$(native_rustc) && "$rustc" --edition 2021 -O -o "$digits.$$" "$hosts/rust/digits/src/main.rs" && mv "$digits.$$" "$digits"
+    command -v rustc >/dev/null || { echo "digits are read by a tool in Rust, and there is no rustc on the PATH (Debian's package is rustc)" >&2; return 1; }
+    rustc --edition 2021 -O -o "$digits.$$" "$hosts/rust/digits/src/main.rs" && mv "$digits.$$" "$digits"
 }
 
 . "$hosts/program.sh"
