@@ -12,9 +12,10 @@ mkdir -p target/log target/must-fail/cells target/bin
 [ "$1" = check ] || rm -f target/log/*
 echo 'rt: cells proved (1 s)' >target/log/cells.out
 echo 'rt: must-fail cells/one: refused, as it must be (1 s)' >target/must-fail/cells/one.out
-sleep 600 &
+sleep 60 &
 echo "$! $$" >"$here/started"
-until [ -e "$here/go" ]; do sleep 0.1; done
+# Where a trial differs it may not be told, and the trials end without it.
+until [ -e "$here/go" ] || [ ! -d "$here" ]; do sleep 0.1; done
 kill "$!"
 touch target/bin/multiply
 printf 'a line of the prover: error\nrt: rows NOT PROVED (exit 1, 2 s)\n' >target/log/rows.out
