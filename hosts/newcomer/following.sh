@@ -65,7 +65,7 @@ gates() {
     local shown=$'rt: cells proved (1 s)\nrt: must-fail cells/one: refused, as it must be (1 s)\nrt: rows NOT PROVED (exit 1, 2 s)\nrt: ok' name part
     mkdir -p "$room/gate/hosts" "$room/gate/.ci" "$room/gate/target/log" && cd "$room/gate" || exit 1
     cp "$root"/hosts/*.sh hosts && cp "$root/.ci/run" .ci && echo 'rt: stale proved (9 s)' >target/log/stale.out || exit 1
-    for name in .ci/promises .ci/refusals hosts/run; do printf '#!/bin/sh\n' >"$name" && chmod +x "$name"; done
+    for name in .ci/promises .ci/refusals .ci/map hosts/run; do printf '#!/bin/sh\n' >"$name" && chmod +x "$name"; done
     part=' s  proofs, must-fail edits and programs (rt ci)'
     gate '4 passed, 0 failed' 0 "$room/right"
     gate '2 passed, 3 failed' 1 "$room/wrong"
