@@ -28,6 +28,6 @@ rowsStop r c text = any r (λ i. rowStops c (drop (i * lineLong c) text))
 unfoldable pub matrixStops : List ℕ → Bool
 matrixStops text = headStops text || rowsStop (sizeIn text .rows) (sizeIn text .columns) (drop 9 text)
 
--- A, then B, then what should be the end
+-- A, then B, then what should be the end; where A is not all there, nothing comes after it yet, and nothing is no fault
 unfoldable pub stops : List ℕ → Bool
 stops text = matrixStops text || (matrixStops (restOf text) || ltb 0 (length (restOf (restOf text))))

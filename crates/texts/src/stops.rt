@@ -13,7 +13,7 @@ use hex::line::unframed;
 use requests::number;
 
 // Whether a matrix stops the reading, and the place in the text where what comes after it begins.
-struct Seen {
+struct Looked {
     stops: bool,
     end: usize,
 }
@@ -64,12 +64,12 @@ fn rows_stop(text: &[u8], start: usize, rows: usize, columns: usize) -> bool
 }
 
 // A matrix that should stand at a place of the text.
-fn matrix_stops(text: &[u8], start: usize) -> Seen
+fn matrix_stops(text: &[u8], start: usize) -> Looked
     requires { ⌜ start ≤ length (now text) ⌝ }
     ensures { λ r. ⌜ (r .stops ≡ matrixStops (drop start (now (text .entry)))) × (r .stops ≡ false → (r .end ≤ length (now (text .entry))) × (drop (r .end) (now (text .entry)) ≡ restOf (drop start (now (text .entry))))) ⌝ }
 {
     if text.len() - start < 9 {
-        return Seen {
+        return Looked {
             stops: part_stops(text, start),
             end: text.len(),
         };
@@ -77,7 +77,7 @@ fn matrix_stops(text: &[u8], start: usize) -> Seen
     let h = size_in(text, start);
     let f = h.answer;
     if number(f) != 0 {
-        return Seen {
+        return Looked {
             stops: true,
             end: start,
         };
@@ -86,12 +86,13 @@ fn matrix_stops(text: &[u8], start: usize) -> Seen
     let c = h.columns as usize;
     let line = 2 * planes(c) * 16 + 1;
     let end = within(text, start + 9 + r * line);
-    Seen {
+    Looked {
         stops: rows_stop(text, start + 9, r, c),
         end: end,
     }
 }
 
+// A, then B, then what should be the end of the text.
 pub fn stops(text: &[u8]) -> bool
     ensures { λ r. ⌜ r ≡ stops (now (text .entry)) ⌝ }
 {
