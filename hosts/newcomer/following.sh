@@ -84,15 +84,18 @@ building() {
     echo 1 >"$room/stub/status"
     : >"$room/err"
     set -m
-    PATH=$room/stub:$PATH ./multiply <"$sample" >"$room/out" 2>"$room/err" &
+    # What runs in the background may have been started with control-C ignored, and no shell undoes that.
+    env --default-signal=INT "PATH=$room/stub:$PATH" ./multiply <"$sample" >"$room/out" 2>"$room/err" &
     pid=$!
     set +m
     judge 'a crate is shown before rt ends' started "$room/err" ' 1 of [0-9]*,.* s: cells proved (1 s): Sixty-four cells at once$' "$pid"
 }
 
-# ended NAME STATUS PATTERN: it ends so, with nothing printed.
+# ended NAME STATUS PATTERN: it ends so within ten seconds, with nothing printed.
 ended() {
-    local got
+    local got times=100
+    while kill -0 "$pid" 2>/dev/null && [ $((times -= 1)) -gt 0 ]; do sleep 0.1; done
+    [ "$times" -gt 0 ] || kill -KILL -- "-$pid"
     { wait "$pid"; } 2>/dev/null
     got=$?
     judge "$1" fits "$got:$(<"$room/out"):$(<"$room/err")" "$2::$3" || tell "$got" "$2"
