@@ -2,6 +2,7 @@
 use mathlib.Core.Path.{_≡_, refl, sym, ap₂}
 use mathlib.Core.Bool.{Bool, true, false, _||_, or-assoc}
 use Prim.Native.Nat.{ℕ, zero, suc, _+_, _-_, _≤_, _<_}
+use native.Mathlib.Numerals.{add-one}
 use native.Mathlib.Nat.{add-zero}
 use native.Mathlib.Decide.{decLt}
 use native.Mathlib.Omega.{arith}
@@ -24,6 +25,11 @@ module _ (f : ℕ → Bool) where
   unfolding any
   any-none zero h = refl
   any-none (suc n) h = rw (any-none n (λ t l. h t (omega arith))) (h n (omega arith))
+
+  -- place after place: none yet, or one found
+  pub any-next : (i : ℕ) → any i f ≡ false → f i ≡ false → any (i + 1) f ≡ false
+  unfolding any
+  any-next i h e = rw (add-one i, h) e
 
   pub any-at : (n : ℕ) → any n f ≡ false → (t : ℕ) → t < n → f t ≡ false
   unfolding any
@@ -57,3 +63,7 @@ pub any-more : (f : ℕ → Bool) (m n : ℕ) → m ≤ n → any m f ≡ true �
 any-more f m n l h =
     let e : n ≡ m + (n - m) = omega arith in
     rw (e, any-split f m (n - m), h)
+
+pub any-found : (f : ℕ → Bool) (i n : ℕ) → i < n → f i ≡ true → any n f ≡ true
+unfolding any
+any-found f i n l e = any-more f (i + 1) n (omega arith) (rw (add-one i) (or-yes (any i f) (f i) e))

@@ -10,7 +10,7 @@ use lib.Dec.{ltb, eqb}
 use lib.ListN.{length, getD}
 use borrow.Author.Tests.{lt-ltb, le-ltb, ltb-false, eqb-true, not-false}
 use Rattle.cells.specs.Any.{any}
-use Rattle.cells.proofs.AnyLaws.{or-left, or-right, or-yes, any-at, any-more}
+use Rattle.cells.proofs.AnyLaws.{or-left, or-right, any-next, any-at, any-found}
 use Rattle.hex.specs.Digit.{digitOf}
 use Rattle.hex.specs.Line.{valueOf, undigit, unframed}
 
@@ -50,12 +50,11 @@ undigit-none line = refl
 
 pub undigit-next : (line : List ℕ) (k d : ℕ) → d ≡ digitOf (getD line k 0) → d ≤ 15 → undigit line k ≡ false → undigit line (k + 1) ≡ false
 unfolding undigit any
-undigit-next line k d e l h = rw (add-one k, h, ← e) (le-ltb 15 d l)
+undigit-next line k d e l h = any-next (λ i. ltb 15 (digitOf (getD line i 0))) k h (rw (← e) (le-ltb 15 d l))
 
 pub undigit-stop : (line : List ℕ) (n k d : ℕ) → k < n → d ≡ digitOf (getD line k 0) → 15 < d → true ≡ undigit line n
 unfolding undigit any
-undigit-stop line n k d m e l =
-    sym (any-more (λ i. ltb 15 (digitOf (getD line i 0))) (suc k) n (omega arith) (or-yes (any k (λ i. ltb 15 (digitOf (getD line i 0)))) (ltb 15 (digitOf (getD line k 0))) (rw (← e) (lt-ltb 15 d l))))
+undigit-stop line n k d m e l = sym (any-found (λ i. ltb 15 (digitOf (getD line i 0))) k n m (rw (← e) (lt-ltb 15 d l)))
 
 -- a line of n digits and byte 10
 pub record Framed (line : List ℕ) (n : ℕ) : Type 0 where

@@ -1,30 +1,19 @@
 -- The faults of a buffer, a row more. Assumes nothing.
 use mathlib.Core.Path.{_≡_, refl, sym}
-use mathlib.Core.Bool.{Bool, true, false}
+use mathlib.Core.Bool.{true, false}
 use mathlib.Core.List.{List}
 use Prim.Native.Nat.{ℕ, _+_, _*_, _^_, _<_}
-use native.Mathlib.Numerals.{add-one}
 use native.Mathlib.Omega.{arith}
 use lib.Bits.{bitOr}
 use Rattle.cells.specs.Any.{any}
 use Rattle.cells.specs.Pair.{digit}
-use Rattle.cells.proofs.AnyLaws.{any-more, or-yes}
+use Rattle.cells.proofs.AnyLaws.{any-next, any-found}
 use Rattle.buffers.specs.Buffer.{planes, wide, bitAt, unit, sign, cell}
 use Rattle.buffers.specs.Fault.{stray, padded}
 use Rattle.buffers.proofs.SizeLaws.{planes-room}
 use Rattle.rows.specs.Row.{digitAt, column}
 use Rattle.rows.specs.Fault.{strayRow, paddedRow, Found}
 use Rattle.rows.proofs.FaultLaws.{or-none, stray-fewer}
-
--- a test that goes row by row
-module _ (f : ℕ → Bool) where
-  next : (i : ℕ) → any i f ≡ false → f i ≡ false → any (i + 1) f ≡ false
-  unfolding any
-  next i h k = rw (add-one i, h) k
-
-  stop : (i r : ℕ) → i < r → f i ≡ true → true ≡ any r f
-  unfolding any
-  stop i r l k = sym (any-more f (i + 1) r (omega arith) (rw (add-one i) (or-yes (any i f) (f i) k)))
 
 module _ (ws : List ℕ) (c q : ℕ) (e : q ≡ planes c) where
   pub stray-begin : stray 0 c ws ≡ false
@@ -33,11 +22,11 @@ module _ (ws : List ℕ) (c q : ℕ) (e : q ≡ planes c) where
 
   pub stray-next : (i : ℕ) → stray i c ws ≡ false → strayRow ws (i * (2 * q)) q c ≡ false → stray (i + 1) c ws ≡ false
   unfolding stray strayRow unit sign wide
-  stray-next i h k = next _ i h (rw e at k)
+  stray-next i h k = any-next _ i h (rw e at k)
 
   pub stray-stop : (i r : ℕ) → i < r → strayRow ws (i * (2 * q)) q c ≡ true → true ≡ stray r c ws
   unfolding stray strayRow unit sign wide
-  stray-stop i r l k = stop _ i r l (rw e at k)
+  stray-stop i r l k = sym (any-found _ i r l (rw e at k))
 
   -- the words in which the strays of the rows are gathered
   pub strays-next : (i w v : ℕ) → w < 2 ^ 64 → v < 2 ^ 64 → (w ≡ 0 → stray i c ws ≡ false) → Found v (strayRow ws (i * (2 * q)) q (64 * q))
@@ -52,8 +41,8 @@ module _ (ws : List ℕ) (c q : ℕ) (e : q ≡ planes c) where
 
   pub padded-next : (i : ℕ) → padded i c ws ≡ false → paddedRow ws (i * (2 * q)) q c ≡ false → padded (i + 1) c ws ≡ false
   unfolding padded paddedRow column digitAt digit cell unit sign bitAt wide
-  padded-next i h k = next _ i h (rw e at k)
+  padded-next i h k = any-next _ i h (rw e at k)
 
   pub padded-stop : (i r : ℕ) → i < r → paddedRow ws (i * (2 * q)) q c ≡ true → true ≡ padded r c ws
   unfolding padded paddedRow column digitAt digit cell unit sign bitAt wide
-  padded-stop i r l k = stop _ i r l (rw e at k)
+  padded-stop i r l k = sym (any-found _ i r l (rw e at k))

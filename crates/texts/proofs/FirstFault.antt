@@ -24,7 +24,7 @@ use Rattle.texts.specs.Stops.{lineStops, headStops, rowStops, rowsStop, 
 use Rattle.texts.proofs.TextLaws.{same-size, same-head}
 use Rattle.texts.proofs.FormLaws.{form-first, form-second, form-more}
 use Rattle.texts.proofs.Limits.{refused-of}
-use Rattle.texts.proofs.StopsLaws.{line-short, line-whole, line-none, head-none, matrix-none, rows-found}
+use Rattle.texts.proofs.StopsLaws.{line-short, line-whole, line-none, head-none, matrix-none}
 
 -- a number that a text is refused with, whatever comes after it
 pub record Final (tests : List ℕ → Tests) (text : List ℕ) : Type 0 where
@@ -277,35 +277,3 @@ first-fault text more e =
     go : (n : ℕ) → (n ≡ 0 → ⊥) → ((rest : List ℕ) → n ≡ first (formTests (text ++ rest))) → multiplyText (text ++ more) ≡ multiplyText text
     go zero ne h = absurd (ne refl)
     go (suc k) ne h = refused-of (text ++ more) k (sym (h more)) ∙ sym (refused-of text k (ap (λ (t : List ℕ). first (formTests t)) (sym (append-nil text)) ∙ sym (h [])))
-
--- ---- a line that is all there, and bad, stops the reading
-
-above-none : (n : ℕ) → (n ≡ 0 → ⊥) → ltb 0 n ≡ true
-above-none zero ne = absurd (ne refl)
-above-none (suc n) ne = lt-ltb 0 (suc n) (omega arith)
-
-module _ (text : List ℕ) where
-  pub bad-header : 9 ≤ length text → (first (headTests text) ≡ 0 → ⊥) → matrixStops text ≡ true
-  unfolding matrixStops headStops lineStops
-  bad-header room ne = rw (le-ltb (length text) 9 room, above-none (first (headTests text)) ne)
-
-  pub bad-row : (i : ℕ) → i < sizeIn text .rows → 9 + (i * lineLong (sizeIn text .columns) + lineLong (sizeIn text .columns)) ≤ length text
-      → unframed (lineAt (sizeIn text .columns) (drop 9 text) i) (wide (sizeIn text .columns) * 16) ≡ true → matrixStops text ≡ true
-  unfolding matrixStops lineAt rowStops lineLong
-  bad-row i l room e =
-      let w = wide (sizeIn text .columns) * 16 in
-      let long : w + 1 ≤ length (drop (i * (w + 1)) (drop 9 text)) = omega (arith, length-drop (i * (w + 1)) (drop 9 text), length-drop 9 text) in
-      or-yes (headStops text) _ (rows-found (sizeIn text .columns) (drop 9 text) i (sizeIn text .rows) l (line-whole w (drop (i * (w + 1)) (drop 9 text)) long ∙ e))
-
-  -- in A, in B, and any byte after B
-  pub bad-first : matrixStops text ≡ true → stops text ≡ true
-  unfolding stops
-  bad-first e = rw e
-
-  pub bad-second : matrixStops (restOf text) ≡ true → stops text ≡ true
-  unfolding stops
-  bad-second e = rw e (or-yes (matrixStops text) true refl)
-
-  pub bad-end : 0 < length (restOf (restOf text)) → stops text ≡ true
-  unfolding stops
-  bad-end l = or-yes (matrixStops text) _ (or-yes (matrixStops (restOf text)) _ (lt-ltb 0 (length (restOf (restOf text))) l))

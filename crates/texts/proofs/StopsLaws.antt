@@ -10,12 +10,12 @@ use lib.ListN.{length, take, drop, length-drop, drop-of-length-le}
 use lib.Seq.{drop-nil, drop-drop, take-all}
 use borrow.Author.Tests.{lt-ltb, le-ltb}
 use Rattle.cells.specs.Any.{any}
-use Rattle.cells.proofs.AnyLaws.{or-yes, any-none, any-more}
+use Rattle.cells.proofs.AnyLaws.{or-yes, any-none, any-next, any-found}
 use Rattle.buffers.specs.Buffer.{planes, wide}
 use Rattle.requests.specs.Answers.{first}
 use Rattle.hex.specs.Line.{undigit, unframed}
 use Rattle.frames.specs.RowLine.{lineLong}
-use Rattle.texts.specs.MatrixText.{sizeIn, restOf, headTests, sizeMeans}
+use Rattle.texts.specs.MatrixText.{lineAt, sizeIn, restOf, headTests, sizeMeans}
 use Rattle.texts.specs.Stops.{lineStops, headStops, rowStops, rowsStop, matrixStops, stops}
 use Rattle.texts.proofs.TextLaws.{head-is, head-size, rest-is}
 
@@ -78,15 +78,43 @@ rows-none c text = refl
 
 pub rows-more : (c : ℕ) (text : List ℕ) (i : ℕ) → rowsStop i c text ≡ false → rowStops c (drop (i * lineLong c) text) ≡ false → rowsStop (i + 1) c text ≡ false
 unfolding rowsStop any
-rows-more c text i h e =
-    let s : i + 1 ≡ suc i = omega arith in
-    rw (s, h) e
+rows-more c text i h e = any-next (λ i. rowStops c (drop (i * lineLong c) text)) i h e
 
 pub rows-found : (c : ℕ) (text : List ℕ) (i r : ℕ) → i < r → rowStops c (drop (i * lineLong c) text) ≡ true → rowsStop r c text ≡ true
 unfolding rowsStop any
-rows-found c text i r l e =
-    let f : ℕ → Bool = λ i. rowStops c (drop (i * lineLong c) text) in
-    any-more f (suc i) r (omega arith) (or-yes (any i f) (f i) e)
+rows-found c text i r l e = any-found (λ i. rowStops c (drop (i * lineLong c) text)) i r l e
+
+-- ---- a line that is all there, and bad, stops the reading
+
+above-none : (n : ℕ) → (n ≡ 0 → ⊥) → ltb 0 n ≡ true
+above-none zero ne = absurd (ne refl)
+above-none (suc n) ne = lt-ltb 0 (suc n) (omega arith)
+
+module _ (text : List ℕ) where
+  pub bad-header : 9 ≤ length text → (first (headTests text) ≡ 0 → ⊥) → matrixStops text ≡ true
+  unfolding matrixStops headStops lineStops
+  bad-header room ne = rw (le-ltb (length text) 9 room, above-none (first (headTests text)) ne)
+
+  pub bad-row : (i : ℕ) → i < sizeIn text .rows → 9 + (i * lineLong (sizeIn text .columns) + lineLong (sizeIn text .columns)) ≤ length text
+      → unframed (lineAt (sizeIn text .columns) (drop 9 text) i) (wide (sizeIn text .columns) * 16) ≡ true → matrixStops text ≡ true
+  unfolding matrixStops lineAt rowStops lineLong
+  bad-row i l room e =
+      let w = wide (sizeIn text .columns) * 16 in
+      let long : w + 1 ≤ length (drop (i * (w + 1)) (drop 9 text)) = omega (arith, length-drop (i * (w + 1)) (drop 9 text), length-drop 9 text) in
+      or-yes (headStops text) _ (rows-found (sizeIn text .columns) (drop 9 text) i (sizeIn text .rows) l (line-whole w (drop (i * (w + 1)) (drop 9 text)) long ∙ e))
+
+  -- in A, in B, and any byte after B
+  pub bad-first : matrixStops text ≡ true → stops text ≡ true
+  unfolding stops
+  bad-first e = rw e
+
+  pub bad-second : matrixStops (restOf text) ≡ true → stops text ≡ true
+  unfolding stops
+  bad-second e = rw e (or-yes (matrixStops text) true refl)
+
+  pub bad-end : 0 < length (restOf (restOf text)) → stops text ≡ true
+  unfolding stops
+  bad-end l = or-yes (matrixStops text) _ (or-yes (matrixStops (restOf text)) _ (lt-ltb 0 (length (restOf (restOf text))) l))
 
 -- ---- a matrix that was looked at, from a place of the text on
 
@@ -106,14 +134,7 @@ module _ (text : List ℕ) where
 
   module _ (n r c : ℕ) (says : _≡_ {A = ℕ × (ℕ × ℕ)} (n, (r, c)) (sizeMeans text)) (room : 9 ≤ length text) where
     pub seen-refused : (n ≡ 0 → ⊥) → true ≡ matrixStops text
-    unfolding matrixStops headStops lineStops
-    seen-refused ne =
-        let e : ltb 0 (first (headTests text)) ≡ true = lt-ltb 0 (first (headTests text)) (positive n (head-is text n r c says) ne) in
-        rw (le-ltb (length text) 9 room, e)
-      where
-        positive : (n : ℕ) → n ≡ first (headTests text) → (n ≡ 0 → ⊥) → 0 < first (headTests text)
-        positive zero e ne = absurd (ne refl)
-        positive (suc n) e ne = omega arith
+    seen-refused ne = sym (bad-header text room (λ e. ne (head-is text n r c says ∙ e)))
 
     pub seen-rows : n ≡ 0 → rowsStop r c (drop 9 text) ≡ matrixStops text
     unfolding matrixStops headStops lineStops
@@ -133,16 +154,14 @@ seen-rest text start n r c q end says ok e f =
 
 module _ (text : List ℕ) (a : Bool) (first : a ≡ matrixStops text) where
   pub stops-first : a ≡ true → true ≡ stops text
-  unfolding stops
-  stops-first h = rw (← first, h)
+  stops-first h = sym (bad-first text (sym first ∙ h))
 
   module _ (none : a ≡ false) (end : ℕ) (rest : drop end text ≡ restOf text) (b : Bool) (second : b ≡ matrixStops (drop end text)) where
     second-is : matrixStops (restOf text) ≡ b
     second-is = sym (second ∙ ap matrixStops rest)
 
     pub stops-second : b ≡ true → true ≡ stops text
-    unfolding stops
-    stops-second h = rw (← first, none, second-is, h)
+    stops-second h = sym (bad-second text (second-is ∙ h))
 
     pub stops-end : b ≡ false → (e : ℕ) → drop e text ≡ restOf (drop end text) → ltb e (length text) ≡ stops text
     unfolding stops

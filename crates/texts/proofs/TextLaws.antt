@@ -10,7 +10,7 @@ use lib.ListN.{length, getD, take, drop, length-append, length-take}
 use lib.Seq.{drop-drop}
 use borrow.Author.Tests.{ltb-false, le-ltb, ne-eqb, eq-eqb}
 use Rattle.cells.specs.Any.{any}
-use Rattle.cells.proofs.AnyLaws.{or-left, or-right, or-yes, any-more}
+use Rattle.cells.proofs.AnyLaws.{or-left, or-right, any-next, any-found}
 use Rattle.buffers.specs.Buffer.{planes, wide, joined}
 use Rattle.buffers.proofs.SizeLaws.{planes-le}
 use Rattle.buffers.proofs.BufferLaws.{length-tab, length-joined}
@@ -112,13 +112,11 @@ misread-none c text = refl
 
 pub misread-more : (c : ℕ) (text : List ℕ) (i : ℕ) → misread i c text ≡ false → unframed (lineAt c text i) (wide c * 16) ≡ false → misread (i + 1) c text ≡ false
 unfolding misread any
-misread-more c text i h e =
-    let s : i + 1 ≡ suc i = omega arith in
-    rw (s, h) e
+misread-more c text i h e = any-next (λ i. unframed (lineAt c text i) (wide c * 16)) i h e
 
 pub misread-stop : (c : ℕ) (text : List ℕ) (i r : ℕ) → i < r → unframed (lineAt c text i) (wide c * 16) ≡ true → misread r c text ≡ true
 unfolding misread any
-misread-stop c text i r l e = any-more (λ i. unframed (lineAt c text i) (wide c * 16)) (suc i) r (omega arith) (or-yes (any i (λ i. unframed (lineAt c text i) (wide c * 16))) _ e)
+misread-stop c text i r l e = any-found (λ i. unframed (lineAt c text i) (wide c * 16)) i r l e
 
 pub words-long : (r c : ℕ) (text : List ℕ) → length (wordsRead r c text) ≡ r * wide c
 unfolding wordsRead wordsOf
