@@ -36,10 +36,11 @@ extern "C" {
 /* The version, counted as CHANGELOG.md says. It stands here alone: `make install` hands it to pkg-config. */
 #define NYUZOLAMBA_VERSION_MAJOR 1
 #define NYUZOLAMBA_VERSION_MINOR 0
-#define NYUZOLAMBA_VERSION_PATCH 0
-#define NYUZOLAMBA_VERSION "1.0.0"
+#define NYUZOLAMBA_VERSION_PATCH 1
+#define NYUZOLAMBA_VERSION "1.0.1"
 
-/* What comes back. The numbers are those of document 01; 8, 9 and 10 belong to requests that the C face does not have or cannot reach. */
+/* What comes back. The numbers are those of document 01; 8 and 10 belong to requests that the C face does not have. The number for a list of row
+ * steps too long to count never came, and is gone since 1.0.1: a host's branch for it can go, and nothing else changes for hosts. */
 enum {
     NYUZOLAMBA_DONE = 0,      /* done */
     NYUZOLAMBA_SIZE = 1,      /* a row or column count is above 1,024 */

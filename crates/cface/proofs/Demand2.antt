@@ -19,6 +19,7 @@ use Rattle.steps.specs.Matrix.{schoolbook}
 use Rattle.steps.specs.Count.{total}
 use Rattle.steps.specs.Turn.{made, turn}
 use Rattle.steps.proofs.Running.{run-digits}
+use Rattle.steps.proofs.Most.{total-most}
 use Rattle.walk.specs.Ran.{found}
 use Rattle.matrix.specs.declared.job.Job.{Job}
 use Rattle.matrix.specs.Job.{meant, totalOf}
@@ -101,8 +102,8 @@ turn-right job a b t p budget r o says z =
     let hy = or-right (above (sizeA J)) (above (sizeB J)) (none .1 .1 .0) in
     let hw : J .width ≤ 8 = ltb-false 8 (J .width) (or-right (eqb (J .width) 0) (ltb 8 (J .width)) (none .1 .1 .1 .0)) in
     let late = none .1 .1 .1 .1 .1 .1 .1 .1 .1 .1 .1 .1 .1 in
-    let few : totalOf (sizeA J) (J .width) A ≤ 4294967295 = ltb-false _ _ (late .0) in
-    let past : J .done ≤ totalOf (sizeA J) (J .width) A = ltb-false _ _ (late .1 .0) in
+    let few = total-most (J .m) (J .l) (J .width) (cell (J .l) A) (omega (arith, above-rows (sizeA J) hx)) (omega (arith, above-columns (sizeA J) hx)) hw in
+    let past : J .done ≤ totalOf (sizeA J) (J .width) A = ltb-false _ _ (late .0) in
     let next : Job = onJob J (leftOf J A (wordsIn b) (wordsIn t) (wordsIn p) budget .done) in
     let fits = record-words next (madeOf J A budget) (eqb (next .done) (totalOf (sizeA J) (J .width) A)) (omega (arith, above-rows (sizeA J) hx)) (omega (arith, above-columns (sizeA J) hx)) (omega (arith, above-columns (sizeB J) hy)) (omega arith) (omega arith) (omega arith) in
     let digits = run-digits (cell (J .n) (wordsIn b)) _ (found (J .n) (wordsIn t) (wordsIn p)) (record { table = λ i j. cell-lt (J .n) (wordsIn t) i j; product = λ i j. cell-lt (J .n) (wordsIn p) i j }) in

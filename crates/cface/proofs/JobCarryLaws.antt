@@ -13,6 +13,7 @@ use Rattle.requests.specs.declared.Size.{Size}
 use Rattle.requests.specs.declared.Answer.{Answer}
 use Rattle.requests.specs.Answers.{number, first, left}
 use Rattle.requests.specs.Sizes.{over, unfit}
+use Rattle.requests.specs.Faults.{pairFaults}
 use Rattle.requests.proofs.SizeLaws.{not-unfit}
 use Rattle.requests.specs.Exact.{None}
 use Rattle.requests.proofs.AnswerLaws.{first-none, refused}
@@ -20,7 +21,7 @@ use Rattle.walk.proofs.CountLaws.{pow-small}
 use Rattle.matrix.specs.declared.job.Job.{Job}
 use Rattle.matrix.specs.Job.{meant, tableSize, productSize}
 use Rattle.matrix.specs.Misfit.{misfit}
-use Rattle.matrix.specs.Opening.{sizeTests, wordTests, openingTests, openingMeans}
+use Rattle.matrix.specs.Opening.{sizeTests, openingTests, openingMeans}
 use Rattle.matrix.specs.Product.{productMeans}
 use Rattle.matrix.specs.Turn.{sizeA, sizeB, foundTests, turnTests, turnMeans}
 use Rattle.matrix.specs.Record.{jobIn, recordOf}
@@ -37,10 +38,10 @@ use Rattle.cface.proofs.CarryLaws.{past-none, carried}
 
 -- the library's tests of an opening, where no size, width or length is wrong
 module _ (x y : Size) (w : ℕ) (a b : List ℕ) (t p : ℕ) (small : (over x || over y) ≡ false) (same : not (eqb (x .columns) (y .rows)) ≡ false) (narrow : ltb 8 w ≡ false) (fa : unfitBytes x (length a) ≡ false) (fb : unfitBytes y (length b) ≡ false) (ft : unfit (tableSize y (meant w)) t ≡ false) (fp : unfit (productSize x y) p ≡ false) where
-  opening-left : first (openingTests x y w (wordsIn a) (wordsIn b) t p) ≡ first (wordTests x y w (wordsIn a) (wordsIn b))
+  opening-left : first (openingTests x y w (wordsIn a) (wordsIn b) t p) ≡ first (pairFaults x y (wordsIn a) (wordsIn b))
   unfolding openingTests misfit
   opening-left =
-      past-none (sizeTests x y w (wordsIn a) (wordsIn b) t p) (wordTests x y w (wordsIn a) (wordsIn b)) (small, (same, (narrow, (rw (fits-in x a fa, fits-in y b fb, ft) fp, tt))))
+      past-none (sizeTests x y w (wordsIn a) (wordsIn b) t p) (pairFaults x y (wordsIn a) (wordsIn b)) (small, (same, (narrow, (rw (fits-in x a fa, fits-in y b fb, ft) fp, tt))))
 
 -- ---- product
 
@@ -85,7 +86,7 @@ module _ (x y : Size) (a b : List ℕ) (n : ℕ) (z : first (productSizes x y (l
   unfolding productFaceTests productSizes meant
   product-same t k et e =
       opening-left x y 0 a b t k (product-none .0) (product-none .1 .1 .0) refl bytes-a bytes-b (not-unfit (tableSize y (meant 0)) t et) (fits-words (productSize x y) n k bytes-out e)
-      ∙ sym (past-none (productSizes x y (length a) (length b) n) (wordTests x y 0 (wordsIn a) (wordsIn b)) product-none)
+      ∙ sym (past-none (productSizes x y (length a) (length b) n) (pairFaults x y (wordsIn a) (wordsIn b)) product-none)
 
 pub product-carried : (x y : Size) (a b out u v t w t′ w′ : List ℕ) (f : ℕ) (r : Answer) → first (productSizes x y (length a) (length b) (length out)) ≡ 0 → length t ≡ words 16 (y .columns) → length out ≡ 8 * length w
     → u ≡ wordsIn a → v ≡ wordsIn b → f ≡ number r → (number r, (t′, w′)) ≡ productMeans x y 0 u v t w → (f, left f out (bytesOf w′)) ≡ productFace x y a b out
@@ -138,7 +139,7 @@ module _ (x y : Size) (width k : ℕ) (a b : List ℕ) (t p : ℕ) (z : first (o
   unfolding openFaceTests openSizes
   open-same i j ei ej =
       opening-left x y width a b i j (open-none .1 .0) (open-none .1 .1 .1 .0) (open-none .1 .1 .1 .1 .0) (fit-a x y (meant width) (length a) (length b) t p lengths) (fit-b x y (meant width) (length a) (length b) t p lengths) (fits-words (tableSize y (meant width)) t i (fit-table x y (meant width) (length a) (length b) t p lengths) ei) (fits-words (productSize x y) p j (fit-product x y (meant width) (length a) (length b) t p lengths) ej)
-      ∙ sym (past-none (openSizes x y width k (length a) (length b) t p) (wordTests x y width (wordsIn a) (wordsIn b)) open-none)
+      ∙ sym (past-none (openSizes x y width k (length a) (length b) t p) (pairFaults x y (wordsIn a) (wordsIn b)) open-none)
 
 -- what is so where no size, width or length of an opening is wrong
 pub record Fits (x y : Size) (width k : ℕ) (a b : List ℕ) (t p : ℕ) : Type 0 where

@@ -22,7 +22,7 @@ use Rattle.steps.specs.Step.{State, run, opening}
 use Rattle.steps.specs.StepList.{steps}
 use Rattle.steps.specs.Count.{total}
 use Rattle.steps.specs.Turn.{after, made, allBudgets, Given}
-use Rattle.steps.proofs.Counts.{total-small}
+use Rattle.steps.proofs.Most.{total-most}
 use Rattle.steps.proofs.Running.{run-digits, opening-digits}
 use Rattle.steps.proofs.Turns.{made-done, turns-from-start}
 use Rattle.matrix.specs.declared.job.Job.{Job}
@@ -114,8 +114,8 @@ module _ (x y : Size) (w : ℕ) (a b : List ℕ) (hm : x .rows ≤ 64) (hl : x .
   abbrev pub productAt : ℕ → List ℕ
   productAt d = bytesOf (encode (x .rows) (y .columns) (at d .product))
 
-  long-small : long < 2 ^ 32
-  long-small = total-small (x .rows) (x .columns) (meant w) (cell (x .columns) (wordsIn a)) im il (meant-pos w) (meant-le w hw)
+  long-small : long ≤ 1050112
+  long-small = total-most (x .rows) (x .columns) (meant w) (cell (x .columns) (wordsIn a)) im il (meant-le w hw)
 
   -- the steps that a turn makes after d of them, and where it stands then
   abbrev makes : ℕ → ℕ → ℕ
@@ -171,7 +171,7 @@ module _ (x y : Size) (w : ℕ) (a b : List ℕ) (hm : x .rows ≤ 64) (hl : x .
                 le-ltb 8 w hw,
                 (
                   rw (fits x (length a) la, fits y (length b) ly, fits (tableSize y (meant w)) (length t) lt) (fits (productSize x y) (length p) lp),
-                  (ta .0, (ta .1, (tb .0, (tb .1, (le-ltb 4294967295 long (omega (arith, long-small)), tt))))),
+                  (ta .0, (ta .1, (tb .0, (tb .1, tt)))),
                 ),
               ),
             ),

@@ -7,9 +7,10 @@ use lib.ListN.{length}
 use Rattle.requests.specs.declared.Size.{Size}
 use Rattle.requests.specs.Answers.{Tests, answered}
 use Rattle.requests.specs.Sizes.{over}
+use Rattle.requests.specs.Faults.{pairFaults}
 use Rattle.matrix.specs.declared.job.Job.{Job}
 use Rattle.matrix.specs.Job.{meant, unmatched}
-use Rattle.matrix.specs.Opening.{wordTests, openedOf}
+use Rattle.matrix.specs.Opening.{openedOf}
 use Rattle.matrix.specs.Record.{recordOf}
 use Rattle.wordbytes.specs.Bytes.{wordsIn, bytesOf}
 use Rattle.cface.specs.Limit.{above, misfitBytes}
@@ -27,7 +28,7 @@ openSizes x y width k l m t p =
     ∷ []
 
 unfoldable pub openFaceTests : Size → Size → ℕ → ℕ → List ℕ → List ℕ → ℕ → ℕ → Tests
-openFaceTests x y width k a b t p = openSizes x y width k (length a) (length b) t p ++ wordTests x y width (wordsIn a) (wordsIn b)
+openFaceTests x y width k a b t p = openSizes x y width k (length a) (length b) t p ++ pairFaults x y (wordsIn a) (wordsIn b)
 
 -- record, table and product as bytes, of what the library's opening leaves
 abbrev pub openBytes : Job × (List ℕ × List ℕ) → List ℕ × (List ℕ × List ℕ)

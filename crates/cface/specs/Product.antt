@@ -7,9 +7,9 @@ use Rattle.buffers.specs.Buffer.{cell, encode}
 use Rattle.requests.specs.declared.Size.{Size}
 use Rattle.requests.specs.Answers.{Tests, answered}
 use Rattle.requests.specs.Sizes.{over}
+use Rattle.requests.specs.Faults.{pairFaults}
 use Rattle.steps.specs.Matrix.{schoolbook}
 use Rattle.matrix.specs.Job.{productSize, unmatched}
-use Rattle.matrix.specs.Opening.{wordTests}
 use Rattle.wordbytes.specs.Bytes.{wordsIn, bytesOf}
 use Rattle.cface.specs.Limit.{above, unfitBytes}
 
@@ -23,7 +23,7 @@ productSizes x y l m n =
     ∷ []
 
 unfoldable pub productFaceTests : Size → Size → List ℕ → List ℕ → ℕ → Tests
-productFaceTests x y a b n = productSizes x y (length a) (length b) n ++ wordTests x y 0 (wordsIn a) (wordsIn b)
+productFaceTests x y a b n = productSizes x y (length a) (length b) n ++ pairFaults x y (wordsIn a) (wordsIn b)
 
 unfoldable pub productFace : Size → Size → List ℕ → List ℕ → List ℕ → ℕ × List ℕ
 productFace x y a b p =

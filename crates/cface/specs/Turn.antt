@@ -23,7 +23,7 @@ turnSizes job k l m t p =
     ∷ (misfitBytes (sizeA job) (sizeB job) (job .width) l m t p, 4)
     ∷ []
 
--- the tests of the words: the cells of A, B, table and product, then the total and the steps done
+-- the tests of the words: the cells of A, B, table and product, then the steps done
 abbrev pub turnWords : Job → List ℕ → List ℕ → List ℕ → List ℕ → Tests
 turnWords job a b t p = cellTests job a b t p ++ lateTests job a
 

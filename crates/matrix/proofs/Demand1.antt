@@ -27,7 +27,7 @@ use Rattle.matrix.specs.Tally.{tallyMeans}
 use Rattle.matrix.specs.declared.job.Job.{Job}
 use Rattle.matrix.specs.Job.{meant, totalOf}
 use Rattle.matrix.specs.Quote.{quoteTests, quoteMeans}
-use Rattle.matrix.specs.Total.{listTests, totalTests, totalMeans}
+use Rattle.matrix.specs.Total.{totalTests, totalMeans}
 use Rattle.matrix.specs.Opening.{openingTests, noJob, openedOf, openingMeans}
 use Rattle.matrix.specs.Turn.{foundTests, turnTests, turnedOf, turnMeans}
 use Rattle.matrix.specs.Product.{endOf, productMeans}
@@ -80,7 +80,7 @@ unfolding quoteMeans quoteTests
 quote-exact x w r n says = exact (quoteTests x w) _ _ (number r) n tt says
 
 pub total-exact : (x : Size) (w : ℕ) (a : List ℕ) (r : Answer) (n : ℕ) → (number r, n) ≡ totalMeans x w a → Exact (totalTests x w a) 0 (totalOf x (meant w) a) (number r) n
-unfolding totalMeans totalTests listTests faults
+unfolding totalMeans totalTests faults
 total-exact x w a r n says = exact (totalTests x w a) _ _ (number r) n tt says
 
 pub opening-exact : (x y : Size) (w : ℕ) (a b t p : List ℕ) (r : Answer) (o : Job × (List ℕ × List ℕ)) → (number r, o) ≡ openingMeans x y w a b t p

@@ -25,7 +25,7 @@ use Rattle.steps.specs.Step.{State, run, opening}
 use Rattle.steps.specs.StepList.{steps}
 use Rattle.steps.specs.Count.{quote, total}
 use Rattle.steps.specs.Turn.{after, made, turn, allBudgets, Given}
-use Rattle.steps.proofs.Counts.{total-le, total-small}
+use Rattle.steps.proofs.Counts.{total-le}
 use Rattle.steps.proofs.Product.{steps-right}
 use Rattle.steps.proofs.Running.{run-digits, opening-digits}
 use Rattle.steps.proofs.Same.{SameState}
@@ -115,7 +115,7 @@ module _ (x y : Size) (w : ℕ) (a b : List ℕ) (hm : x .rows ≤ 1024) (hl : x
       )
 
   no-test : (d : ℕ) → d ≤ long → first (turnTests (recordAt d) a b (tableAt d) (productAt d)) ≡ 0
-  no-test d h = turn-none (recordAt d) a b (tableAt d) (productAt d) (no-fault d) (omega (arith, total-small m l k A hm hl (meant-pos w) k8)) h
+  no-test d h = turn-none (recordAt d) a b (tableAt d) (productAt d) (no-fault d) h
 
   -- what is found at d is the state at d, within the sizes
   found-at : (d : ℕ) → SameState k m n (found n (tableAt d) (productAt d)) (at d)
@@ -209,7 +209,7 @@ module _ (x y : Size) (w : ℕ) (a b : List ℕ) (hm : x .rows ≤ 1024) (hl : x
             le-ltb 8 w hw,
             (
               rw (not-unfit x (length a) (LA .long), not-unfit y (length b) (LY .long), not-unfit (tableSize y k) (length t) lt) (not-unfit (productSize x y) (length p) lp),
-              (ta .0, (ta .1, (tb .0, (tb .1, (le-ltb 4294967295 long (omega (arith, total-small m l k A hm hl (meant-pos w) k8)), tt))))),
+              (ta .0, (ta .1, (tb .0, (tb .1, tt)))),
             ),
           ),
         ),

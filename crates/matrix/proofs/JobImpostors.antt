@@ -30,8 +30,8 @@ use Rattle.matrix.specs.declared.job.Job.{Job}
 use Rattle.matrix.specs.Job.{meant}
 use Rattle.matrix.specs.Misfit.{misfit}
 use Rattle.matrix.specs.Quote.{quoteTests, quoteMeans}
-use Rattle.matrix.specs.Total.{listTests, totalTests, totalMeans}
-use Rattle.matrix.specs.Opening.{fittingTests, openingTests, openingMeans}
+use Rattle.matrix.specs.Total.{totalTests, totalMeans}
+use Rattle.matrix.specs.Opening.{openingTests, openingMeans}
 use Rattle.matrix.specs.Product.{endOf, productMeans}
 use Rattle.matrix.specs.Turn.{foundTests, turnTests, turnedOf, turnMeans}
 
@@ -89,7 +89,7 @@ pub record Sums : Type 0 where
   pub multiplied : (productMeans one one 1 one1 one1 newTable zero1 ≡ (0, (madeTable, one1))) × (productMeans one one 1 zero1 one1 newTable zero1 ≡ (0, (madeTable, zero1)))
 
 pub sums : Sums
-unfolding turnMeans turnTests foundTests turnedOf turn made openingMeans openingTests fittingTests productMeans endOf totalMeans totalTests listTests quoteMeans quoteTests quote total sum meant misfit due found steps blocks blockWidth blockSteps rowSteps tableSteps each many unless0 bitsOf lowestBit cleared put apply run opening answered first left over unfit faults stray padded any unit sign cell bitAt bit planes wide words encode joined plane tab wordOf unitOf signOf add3 sub3 is trailingZeros
+unfolding turnMeans turnTests foundTests turnedOf turn made openingMeans openingTests productMeans endOf totalMeans totalTests quoteMeans quoteTests quote total sum meant misfit due found steps blocks blockWidth blockSteps rowSteps tableSteps each many unless0 bitsOf lowestBit cleared put apply run opening answered first left over unfit faults stray padded any unit sign cell bitAt bit planes wide words encode joined plane tab wordOf unitOf signOf add3 sub3 is trailingZeros
 sums = record { first-step = refl; second-step = refl; both-steps = refl; zero-cell = refl; totals = (refl, refl); quoted = (refl, refl); opened-at = (refl, refl); multiplied = (refl, refl) }
 
 one-zero : one1 ≡ zero1 → ⊥

@@ -1,9 +1,8 @@
 -- What the tests of jobs say where none of them holds. Assumes nothing.
 use mathlib.Core.Path.{_≡_, refl, sym, ap, ap₂, subst, _∙_}
 use mathlib.Core.Bool.{Bool, false, _||_}
-use mathlib.Core.List.{List, [], _∷_, _++_}
+use mathlib.Core.List.{List, [], _++_}
 use Prim.Native.Nat.{ℕ, zero, suc, _+_, _-_, _*_, _^_, _≤_, _<_, min}
-use native.Mathlib.Nat.{mul-le-mul}
 use native.Mathlib.Numerals.{add-one}
 use native.Mathlib.Omega.{arith}
 use lib.Dec.{T, ltb, eqb}
@@ -28,7 +27,7 @@ use Rattle.steps.specs.StepList.{each, blocks, blockWidth, blockAt}
 use Rattle.steps.specs.Count.{quote, total}
 use Rattle.steps.specs.Turn.{due, made, turn}
 use Rattle.steps.proofs.Fits.{AllFit}
-use Rattle.steps.proofs.Counts.{quote-le, total-small}
+use Rattle.steps.proofs.Most.{quote-most}
 use Rattle.cells.proofs.SumLaws.{sum-none, sum-last, sum-mono}
 use Rattle.steps.proofs.Same.{SameState, run-same}
 use Rattle.walk.specs.declared.place.Standing.{Standing}
@@ -37,10 +36,10 @@ use Rattle.walk.specs.Ran.{found, Ran}
 use Rattle.walk.proofs.CountLaws.{pow-small}
 use Rattle.walk.proofs.PieceLaws.{from-place}
 use Rattle.matrix.specs.declared.job.Job.{Job}
-use Rattle.matrix.specs.Job.{meant, tableSize, productSize, totalOf, countless}
+use Rattle.matrix.specs.Job.{meant, tableSize, productSize, totalOf}
 use Rattle.matrix.specs.Misfit.{misfit}
-use Rattle.matrix.specs.Total.{listTests}
-use Rattle.matrix.specs.Opening.{fittingTests, openingTests}
+use Rattle.matrix.specs.Total.{totalTests}
+use Rattle.matrix.specs.Opening.{openingTests}
 use Rattle.matrix.specs.Turn.{sizeA, sizeB, foundTests, lateTests, turnTests, stepsOf, madeOf, onJob, turnedOf}
 
 pub meant-pos : (w : ℕ) → 0 < meant w
@@ -89,10 +88,10 @@ pub record Countable (x : Size) (w : ℕ) (a : List ℕ) : Type 0 where
   pub width : w ≤ 8
   pub legal : Legal (x .rows) (x .columns) a
 
-pub list-ready : (x : Size) (w : ℕ) (a : List ℕ) → first (listTests x w a) ≡ 0 → Countable x w a
-unfolding listTests faults
-list-ready x w a z =
-    let t : None (listTests x w a) = first-none (listTests x w a) tt z in
+pub total-ready : (x : Size) (w : ℕ) (a : List ℕ) → first (totalTests x w a) ≡ 0 → Countable x w a
+unfolding totalTests faults
+total-ready x w a z =
+    let t : None (totalTests x w a) = first-none (totalTests x w a) tt z in
     record {
       rows = over-rows x (t .0);
       columns = over-columns x (t .0);
@@ -110,10 +109,10 @@ pub record Fitting (x y : Size) (w : ℕ) (a b : List ℕ) (t p : ℕ) : Type 0 
   pub table : t ≡ words (2 ^ meant w) (y .columns)
   pub product : p ≡ words (x .rows) (y .columns)
 
-pub fitting-ready : (x y : Size) (w : ℕ) (a b : List ℕ) (t p : ℕ) → first (fittingTests x y w a b t p) ≡ 0 → Fitting x y w a b t p
-unfolding fittingTests faults
-fitting-ready x y w a b t p z =
-    let h : None (fittingTests x y w a b t p) = first-none (fittingTests x y w a b t p) tt z in
+pub opening-ready : (x y : Size) (w : ℕ) (a b : List ℕ) (t p : ℕ) → first (openingTests x y w a b t p) ≡ 0 → Fitting x y w a b t p
+unfolding openingTests faults
+opening-ready x y w a b t p z =
+    let h : None (openingTests x y w a b t p) = first-none (openingTests x y w a b t p) tt z in
     let small-x = or-left (over x) (over y) (h .0) in
     let small-y = or-right (over x) (over y) (h .0) in
     let same : x .columns ≡ y .rows = eqb-true _ _ (not-false (eqb (x .columns) (y .rows)) (h .1 .0)) in
@@ -172,30 +171,6 @@ meant-some (suc w) ne = refl
 
 -- ---- positive numbers alone stand in the lists
 
-pub list-positive : (x : Size) (w : ℕ) (a : List ℕ) → T (positive (listTests x w a))
-unfolding listTests faults
-list-positive x w a = tt
-
-pub fitting-positive : (x y : Size) (w : ℕ) (a b : List ℕ) (t p : ℕ) → T (positive (fittingTests x y w a b t p))
-unfolding fittingTests faults
-fitting-positive x y w a b t p = tt
-
--- within the sizes no list is too long to count
-pub opening-first : (x y : Size) (w : ℕ) (a b : List ℕ) (t p : ℕ) → first (openingTests x y w a b t p) ≡ first (fittingTests x y w a b t p)
-unfolding openingTests fittingTests first
-opening-first x y w a b t p = go (first (fittingTests x y w a b t p)) refl
-  where
-    go : (n : ℕ) → first (fittingTests x y w a b t p) ≡ n → first (fittingTests x y w a b t p ++ countless x (meant w) a) ≡ first (fittingTests x y w a b t p)
-    go zero e =
-        let r = fitting-ready x y w a b t p e in
-        append-none (fittingTests x y w a b t p) (countless x (meant w) a) (fitting-positive x y w a b t p) e
-        ∙ later (ltb 4294967295 (totalOf x (meant w) a)) 9 [] (le-ltb 4294967295 (totalOf x (meant w) a) (omega (arith, total-small (x .rows) (x .columns) (meant w) (cell (x .columns) a) (r .m) (r .l) (meant-pos w) (meant-le w (r .width)))))
-        ∙ sym e
-    go (suc n) e = append-given (fittingTests x y w a b t p) (countless x (meant w) a) (λ z. omega (arith, e, z))
-
-pub opening-ready : (x y : Size) (w : ℕ) (a b : List ℕ) (t p : ℕ) → first (openingTests x y w a b t p) ≡ 0 → Fitting x y w a b t p
-opening-ready x y w a b t p z = fitting-ready x y w a b t p (sym (opening-first x y w a b t p) ∙ z)
-
 pub found-positive : (job : Job) (a b t p : List ℕ) → T (positive (foundTests job a b t p))
 unfolding foundTests faults
 found-positive job a b t p = tt
@@ -245,11 +220,9 @@ quote-more m l k b n w o ew eo en =
     rw (add-one b)
     (sym (sum-last (quoteAt m l k) b ∙ ap₂ _+_ (sym en) (ap (λ (v : ℕ). (2 ^ v - 1) + m * min 2 v) (sym ew) ∙ ap (λ (v : ℕ). (2 ^ w - 1) + m * v) (sym eo))))
 
-pub quote-small : (m l k b n : ℕ) → m ≤ 1024 → l ≤ 1024 → 0 < k → k ≤ 8 → b ≤ blocks l k → n ≡ sum 0 b (quoteAt m l k) → n ≤ 2358272
+pub quote-small : (m l k b n : ℕ) → m ≤ 1024 → l ≤ 1024 → k ≤ 8 → b ≤ blocks l k → n ≡ sum 0 b (quoteAt m l k) → n ≤ 1050112
 unfolding quote
-quote-small m l k b n hm hl pos hk hb en =
-    let most : l * ((2 ^ k - 1) + m * 2) ≤ 1024 * 2303 = mul-le-mul {n₂ = 1024} {m₂ = 2303} hl (omega (arith, pow-small k hk)) in
-    omega (arith, en, sum-mono (quoteAt m l k) b (blocks l k) hb, quote-le m l k pos, most)
+quote-small m l k b n hm hl hk hb en = omega (arith, en, sum-mono (quoteAt m l k) b (blocks l k) hb, quote-most m l k hm hl hk)
 
 pub quote-all : (m l k b n : ℕ) → b ≡ blocks l k → n ≡ sum 0 b (quoteAt m l k) → n ≡ quote m l k
 unfolding quote
@@ -270,18 +243,12 @@ module _ (job : Job) (a b t p : List ℕ) where
     unfolding turnTests
     past-found = append-none (foundTests job a b t p) (lateTests job a) (found-positive job a b t p) none
 
-    pub turn-countless : 4294967295 < count → first (turnTests job a b t p) ≡ 9
-    turn-countless h = past-found ∙ here (ltb 4294967295 count) 9 _ (lt-ltb 4294967295 count h)
+    pub turn-exceeds : count < job .done → first (turnTests job a b t p) ≡ 7
+    turn-exceeds o = past-found ∙ here (ltb count (job .done)) 7 [] (lt-ltb count (job .done) o)
 
-    past-count : count ≤ 4294967295 → first (turnTests job a b t p) ≡ first ((ltb count (job .done), 7) ∷ [])
-    past-count h = past-found ∙ later (ltb 4294967295 count) 9 _ (le-ltb 4294967295 count h)
-
-    pub turn-exceeds : count ≤ 4294967295 → count < job .done → first (turnTests job a b t p) ≡ 7
-    turn-exceeds h o = past-count h ∙ here (ltb count (job .done)) 7 [] (lt-ltb count (job .done) o)
-
-    pub turn-none : count ≤ 4294967295 → job .done ≤ count → first (turnTests job a b t p) ≡ 0
+    pub turn-none : job .done ≤ count → first (turnTests job a b t p) ≡ 0
     unfolding first
-    turn-none h o = past-count h ∙ later (ltb count (job .done)) 7 [] (le-ltb count (job .done) o)
+    turn-none o = past-found ∙ later (ltb count (job .done)) 7 [] (le-ltb count (job .done) o)
 
 -- n steps from the place where the job stands are the turn
 pub turn-done : (job : Job) (a b t p t′ p′ : List ℕ) (budget n : ℕ) (at : Standing) → StandsAt (job .m) (job .l) (job .width) (cell (job .l) a) (job .done) at → n ≡ min budget (at .total - job .done)

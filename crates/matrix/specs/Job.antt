@@ -1,11 +1,10 @@
 -- A job's sizes and buffers. A is x, m by l; B is y, l by n; the table has 2 ^ width rows of n columns; the product is m by n. Assumes nothing.
 use mathlib.Core.Bool.{Bool, not, _||_}
-use mathlib.Core.List.{List, [], _∷_}
+use mathlib.Core.List.{List}
 use Prim.Native.Nat.{ℕ, zero, suc, _^_}
 use lib.Dec.{ltb, eqb}
 use Rattle.buffers.specs.Buffer.{cell}
 use Rattle.requests.specs.declared.Size.{Size}
-use Rattle.requests.specs.Answers.{Tests}
 use Rattle.steps.specs.Count.{total}
 
 -- 0 means the default
@@ -30,7 +29,3 @@ unmatched x y = not (eqb (x .columns) (y .rows))
 -- the exact total of A
 abbrev pub totalOf : Size → ℕ → List ℕ → ℕ
 totalOf x width a = total (x .rows) (x .columns) width (cell (x .columns) a)
-
--- it exceeds 4,294,967,295
-abbrev pub countless : Size → ℕ → List ℕ → Tests
-countless x width a = (ltb 4294967295 (totalOf x width a), 9) ∷ []

@@ -10,7 +10,7 @@ use Rattle.requests.specs.Answers.{Tests, answered}
 use Rattle.requests.specs.Sizes.{over}
 use Rattle.requests.specs.Faults.{pairFaults}
 use Rattle.matrix.specs.declared.job.Job.{Job}
-use Rattle.matrix.specs.Job.{meant, unmatched, countless}
+use Rattle.matrix.specs.Job.{meant, unmatched}
 use Rattle.matrix.specs.Misfit.{misfit}
 
 -- the tests of sizes, width and lengths; t and p are how many words table and product have
@@ -18,15 +18,8 @@ abbrev pub sizeTests : Size → Size → ℕ → List ℕ → List ℕ → ℕ �
 sizeTests x y width a b t p = (over x || over y, 1) ∷ (unmatched x y, 2) ∷ (ltb 8 width, 3) ∷ (misfit x y (meant width) (length a) (length b) t p, 4) ∷ []
 
 -- .. and cells
-unfoldable pub fittingTests : Size → Size → ℕ → List ℕ → List ℕ → ℕ → ℕ → Tests
-fittingTests x y width a b t p = sizeTests x y width a b t p ++ pairFaults x y a b
-
--- the tests of the words of A and B: their cells, and then the total
-abbrev pub wordTests : Size → Size → ℕ → List ℕ → List ℕ → Tests
-wordTests x y width a b = pairFaults x y a b ++ countless x (meant width) a
-
 unfoldable pub openingTests : Size → Size → ℕ → List ℕ → List ℕ → ℕ → ℕ → Tests
-openingTests x y width a b t p = sizeTests x y width a b t p ++ wordTests x y width a b
+openingTests x y width a b t p = sizeTests x y width a b t p ++ pairFaults x y a b
 
 abbrev pub noJob : Job
 noJob = record { m = 0; l = 0; n = 0; width = 0; done = 0 }

@@ -1,5 +1,5 @@
 -- What `total` answers: the exact total, from the sizes and A. Assumes nothing.
-use mathlib.Core.List.{List, _∷_, _++_}
+use mathlib.Core.List.{List, _∷_}
 use Prim.Native.Nat.{ℕ}
 use lib.Dec.{ltb}
 use lib.ListN.{length}
@@ -7,14 +7,11 @@ use Rattle.requests.specs.declared.Size.{Size}
 use Rattle.requests.specs.Answers.{Tests, answered}
 use Rattle.requests.specs.Sizes.{over, unfit}
 use Rattle.requests.specs.Faults.{faults}
-use Rattle.matrix.specs.Job.{meant, totalOf, countless}
+use Rattle.matrix.specs.Job.{meant, totalOf}
 
 -- the tests of what the list depends on: the sizes, the width and A
-unfoldable pub listTests : Size → ℕ → List ℕ → Tests
-listTests x width a = (over x, 1) ∷ (ltb 8 width, 3) ∷ (unfit x (length a), 4) ∷ faults x a
-
 unfoldable pub totalTests : Size → ℕ → List ℕ → Tests
-totalTests x width a = listTests x width a ++ countless x (meant width) a
+totalTests x width a = (over x, 1) ∷ (ltb 8 width, 3) ∷ (unfit x (length a), 4) ∷ faults x a
 
 unfoldable pub totalMeans : Size → ℕ → List ℕ → ℕ × ℕ
 totalMeans x width a = answered (totalTests x width a) 0 (totalOf x (meant width) a)

@@ -14,7 +14,7 @@ use Rattle.steps.specs.StepList.{steps}
 use Rattle.steps.specs.Turn.{made, Place, turn}
 use Rattle.walk.specs.Ran.{found}
 use Rattle.matrix.specs.declared.job.Job.{Job}
-use Rattle.matrix.specs.Job.{unwide, tableSize, productSize, totalOf, countless}
+use Rattle.matrix.specs.Job.{unwide, tableSize, productSize, totalOf}
 use Rattle.matrix.specs.Misfit.{misfit}
 
 abbrev pub sizeA : Job → Size
@@ -35,9 +35,9 @@ foundTests job a b t p =
     ∷ (misfit (sizeA job) (sizeB job) (job .width) (length a) (length b) (length t) (length p), 4)
     ∷ cellTests job a b t p
 
--- the tests of the total and the steps done
+-- the test of the steps done
 abbrev pub lateTests : Job → List ℕ → Tests
-lateTests job a = countless (sizeA job) (job .width) a ++ ((ltb (totalOf (sizeA job) (job .width) a) (job .done), 7) ∷ [])
+lateTests job a = (ltb (totalOf (sizeA job) (job .width) a) (job .done), 7) ∷ []
 
 unfoldable pub turnTests : Job → List ℕ → List ℕ → List ℕ → List ℕ → Tests
 turnTests job a b t p = foundTests job a b t p ++ lateTests job a

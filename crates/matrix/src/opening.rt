@@ -3,7 +3,7 @@ ghost use mathlib.Core.Path.{_≡_};
 ghost use Prim.Native.Nat.{ℕ};
 ghost use lib.ListN.{length, getD};
 ghost use Rattle.requests.specs.Answers.{number, first};
-ghost use Rattle.matrix.specs.Opening.{fittingTests, openingTests, openingMeans};
+ghost use Rattle.matrix.specs.Opening.{openingTests, openingMeans};
 use super::job::Job;
 use super::job::meant;
 use super::misfit::misfit;
@@ -20,8 +20,8 @@ pub struct Opened {
 }
 
 // The tests of sizes, width, lengths and cells; t and p are how many words table and product have.
-fn fitting(x: Size, y: Size, width: u64, a: &[u64], b: &[u64], t: usize, p: usize) -> Answer
-    ensures { λ r. ⌜ number r ≡ first (fittingTests x y width (now (a .entry)) (now (b .entry)) t p) ⌝ }
+pub fn judged(x: Size, y: Size, width: u64, a: &[u64], b: &[u64], t: usize, p: usize) -> Answer
+    ensures { λ r. ⌜ number r ≡ first (openingTests x y width (now (a .entry)) (now (b .entry)) t p) ⌝ }
 {
     if either_over(x, y) {
         return Answer::TooLarge;
@@ -40,13 +40,6 @@ fn fitting(x: Size, y: Size, width: u64, a: &[u64], b: &[u64], t: usize, p: usiz
         return f;
     }
     fault(y, b)
-}
-
-// All tests of an opening. Within the sizes no list is too long to count, so that 9 is never given and nothing is counted.
-pub fn judged(x: Size, y: Size, width: u64, a: &[u64], b: &[u64], t: usize, p: usize) -> Answer
-    ensures { λ r. ⌜ number r ≡ first (openingTests x y width (now (a .entry)) (now (b .entry)) t p) ⌝ }
-{
-    fitting(x, y, width, a, b, t, p)
 }
 
 // Zero in a whole buffer.

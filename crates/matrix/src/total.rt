@@ -1,7 +1,7 @@
 // The exact total: the length of the list of row steps.
 ghost use mathlib.Core.Path.{_≡_};
 ghost use Rattle.requests.specs.Answers.{number, first};
-ghost use Rattle.matrix.specs.Total.{listTests, totalMeans};
+ghost use Rattle.matrix.specs.Total.{totalTests, totalMeans};
 use super::job::meant;
 use super::quote::Counted;
 use requests::Answer;
@@ -13,7 +13,7 @@ use requests::sizes::unfit;
 use walk::place::place;
 
 fn judged(x: Size, width: u64, a: &[u64]) -> Answer
-    ensures { λ r. ⌜ number r ≡ first (listTests x width (now (a .entry))) ⌝ }
+    ensures { λ r. ⌜ number r ≡ first (totalTests x width (now (a .entry))) ⌝ }
 {
     if over(x) {
         return Answer::TooLarge;
@@ -39,15 +39,8 @@ pub fn total(x: Size, width: u64, a: &[u64]) -> Counted
     }
     let k = meant(width) as usize;
     let at = place(a, x.rows as usize, x.columns as usize, k, 0);
-    let n = at.total;
-    if n > 4294967295 {
-        return Counted {
-            answer: Answer::TotalExceeds,
-            steps: 0,
-        };
-    }
     Counted {
         answer: Answer::Done,
-        steps: n,
+        steps: at.total,
     }
 }

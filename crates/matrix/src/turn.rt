@@ -112,7 +112,7 @@ fn accepted(
     at: Standing,
     budget: u32,
 ) -> Turned
-    requires { ⌜ (first (foundTests job (now a) (now b) (now table) (now product)) ≡ 0) × StandsAt (job .m) (job .l) (job .width) (cell (job .l) (now a)) (job .done) at × (at .total ≤ 4294967295) × (job .done ≤ at .total) ⌝ }
+    requires { ⌜ (first (foundTests job (now a) (now b) (now table) (now product)) ≡ 0) × StandsAt (job .m) (job .l) (job .width) (cell (job .l) (now a)) (job .done) at × (job .done ≤ at .total) ⌝ }
     ensures { λ r. ⌜ (number (r .answer) ≡ 0) × ((r .job, (r .made, (r .finished, (now (table .exit), now (product .exit))))) ≡ turnedOf job (now (a .entry)) (now (b .entry)) (now (table .entry)) (now (product .entry)) budget) ⌝ }
 {
     let made = least(budget as u64, at.total - job.done);
@@ -158,9 +158,6 @@ pub fn turn(
         job.width as usize,
         job.done,
     );
-    if at.total > 4294967295 {
-        return refused(job, Answer::TotalExceeds);
-    }
     if job.done > at.total {
         return refused(job, Answer::StepsExceed);
     }

@@ -7,7 +7,7 @@ use native.Mathlib.Omega.{arith}
 use lib.Dec.{T, ltb, ltb→lt}
 use mir.Val.{boolByte}
 use Rattle.requests.specs.declared.Answer.{Answer}
-use Rattle.requests.specs.declared.Answer.the-variants.{Done, TooLarge, SizesDiffer, WidthWrong, LengthWrong, StraySign, PaddingSet, StepsExceed, DigitWrong, TotalExceeds, NotAFrame, AboveLimit}
+use Rattle.requests.specs.declared.Answer.the-variants.{Done, TooLarge, SizesDiffer, WidthWrong, LengthWrong, StraySign, PaddingSet, StepsExceed, DigitWrong, NotAFrame, AboveLimit}
 use Rattle.requests.specs.Answers.{number, Tests, first, left, answered}
 use Rattle.requests.specs.Exact.{None, Gives, Numbered, Seen, Exact}
 
@@ -147,8 +147,9 @@ nth [] n = Done
 nth (a ∷ rest) zero = a
 nth (a ∷ rest) (suc n) = nth rest n
 
+-- a number that no answer has is named as `Done` here
 named : ℕ → Answer
-named = nth (Done ∷ TooLarge ∷ SizesDiffer ∷ WidthWrong ∷ LengthWrong ∷ StraySign ∷ PaddingSet ∷ StepsExceed ∷ DigitWrong ∷ TotalExceeds ∷ NotAFrame ∷ AboveLimit ∷ [])
+named = nth (Done ∷ TooLarge ∷ SizesDiffer ∷ WidthWrong ∷ LengthWrong ∷ StraySign ∷ PaddingSet ∷ StepsExceed ∷ DigitWrong ∷ Done ∷ NotAFrame ∷ AboveLimit ∷ [])
 
 named-number : (a : Answer) → named (number a) ≡ a
 unfolding named nth
@@ -161,7 +162,6 @@ named-number StraySign = refl
 named-number PaddingSet = refl
 named-number StepsExceed = refl
 named-number DigitWrong = refl
-named-number TotalExceeds = refl
 named-number NotAFrame = refl
 named-number AboveLimit = refl
 

@@ -3,7 +3,7 @@ use mathlib.Core.Bool.{Bool, true, false}
 use mathlib.Core.List.{List, [], _∷_}
 use Prim.Native.Nat.{ℕ, zero, suc}
 use Rattle.requests.specs.declared.Answer.{Answer}
-use Rattle.requests.specs.declared.Answer.the-variants.{Done, TooLarge, SizesDiffer, WidthWrong, LengthWrong, StraySign, PaddingSet, StepsExceed, DigitWrong, TotalExceeds, NotAFrame, AboveLimit}
+use Rattle.requests.specs.declared.Answer.the-variants.{Done, TooLarge, SizesDiffer, WidthWrong, LengthWrong, StraySign, PaddingSet, StepsExceed, DigitWrong, NotAFrame, AboveLimit}
 
 abbrev pub number : Answer → ℕ
 number Done = 0
@@ -15,7 +15,6 @@ number StraySign = 5
 number PaddingSet = 6
 number StepsExceed = 7
 number DigitWrong = 8
-number TotalExceeds = 9
 number NotAFrame = 10
 number AboveLimit = 11
 

@@ -24,7 +24,6 @@ pub enum Answer {
     PaddingSet,
     StepsExceed,
     DigitWrong,
-    TotalExceeds,
     NotAFrame,
     AboveLimit,
 }
@@ -43,7 +42,6 @@ pub fn number(a: Answer) -> u64
         Answer::PaddingSet => 6,
         Answer::StepsExceed => 7,
         Answer::DigitWrong => 8,
-        Answer::TotalExceeds => 9,
         Answer::NotAFrame => 10,
         Answer::AboveLimit => 11,
     }

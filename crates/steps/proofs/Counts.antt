@@ -3,9 +3,8 @@ use Prim.Native.Nat.{ℕ, zero, suc, _+_, _-_, _*_, _^_, _≤_, _<_, min}
 use mathlib.Core.Path.{_≡_, refl, _∙_}
 use mathlib.Core.List.{[], _∷_}
 use native.Mathlib.Omega.{arith}
-use native.Mathlib.Nat.{le-trans, sub-zero, mul-le-mul-left, mul-le-mul-right}
+use native.Mathlib.Nat.{sub-zero}
 use lib.Dec.{lit≤}
-use lib.Pow.{pow-mono}
 use lib.ListN.{length, length-append}
 use Rattle.cells.specs.Digit.{Matrix}
 use Rattle.steps.specs.Step.{Step, tableStep, plus, minus}
@@ -14,7 +13,7 @@ use Rattle.steps.specs.StepList.{unless0, each, tableSteps, rowSteps, bl
 use Rattle.steps.specs.Count.{quote, total, rowCount, blockCount, countAt}
 use Rattle.cells.proofs.SumLaws.{sum-le, sum-same, sum-ext}
 use Rattle.steps.proofs.BlockBits.{bits-none, bits-first}
-use Rattle.steps.proofs.Loops.{length-each, no-blocks, blocks-within, width-le}
+use Rattle.steps.proofs.Loops.{length-each, no-blocks}
 
 pub length-unless0 : (step : ℕ → Step) (x : ℕ) → length (unless0 step x) ≡ min 1 x
 unfolding unless0
@@ -69,32 +68,3 @@ block-le m A s w = omega (arith, sum-le (rowCount A s w) (λ _. min 2 w) (row-le
 pub total-le : (m l k : ℕ) (A : Matrix) → total m l k A ≤ quote m l k
 unfolding quote
 total-le m l k A = rw total-counts (sum-le _ _ (λ b. block-le m A (b * k) (blockWidth l k b)) (blocks l k) 0)
-
--- ---- how large it can be
-
-pub blocks-le : (l k : ℕ) → 0 < k → blocks l k ≤ l
-blocks-le l zero pos = absurd (omega arith)
-blocks-le l (suc k) pos = go (blocks l (suc k)) refl
-  where
-    go : (n : ℕ) → blocks l (suc k) ≡ n → n ≤ l
-    go zero e = omega arith
-    go (suc b) e = omega (arith, blocks-within l (suc k) b pos (omega arith))
-
--- no block takes more than a full one
-pub quote-le : (m l k : ℕ) → 0 < k → quote m l k ≤ l * ((2 ^ k - 1) + m * 2)
-unfolding quote
-quote-le m l k pos =
-    let c = (2 ^ k - 1) + m * 2 in
-    le-trans (sum-le _ (λ _. c) full (blocks l k) 0) (rw (sum-same c (blocks l k) 0) (mul-le-mul-right c (blocks-le l k pos)))
-  where
-    full : (b : ℕ) → (2 ^ blockWidth l k b - 1) + m * min 2 (blockWidth l k b) ≤ (2 ^ k - 1) + m * 2
-    full b =
-        let two : min 2 (blockWidth l k b) ≤ 2 = omega arith in
-        omega (arith, pow-mono (width-le l k b), mul-le-mul-left m two)
-
--- at the sizes and widths of document 01 no total needs more than 32 bits
-pub total-small : (m l k : ℕ) (A : Matrix) → m ≤ 1024 → l ≤ 1024 → 0 < k → k ≤ 8 → total m l k A < 2 ^ 32
-total-small m l k A hm hl pos hk =
-    let p : 2 ^ k ≤ 256 = pow-mono hk in
-    let c : (2 ^ k - 1) + m * 2 ≤ 2303 = omega arith in
-    omega (arith, total-le m l k A, quote-le m l k pos, mul-le-mul-right ((2 ^ k - 1) + m * 2) hl)

@@ -15,7 +15,8 @@ use Rattle.steps.specs.StepList.{P, N, blocks, blockWidth}
 use Rattle.steps.specs.Count.{total, rowCount, blockCount, countAt}
 use Rattle.walk.specs.declared.place.Standing.{Standing}
 use Rattle.walk.specs.Place.{StandsAt}
-use Rattle.steps.proofs.Counts.{row-le, total-counts, total-small}
+use Rattle.steps.proofs.Counts.{row-le, total-counts}
+use Rattle.steps.proofs.Most.{total-most}
 use Rattle.cells.proofs.SumLaws.{sum-none, sum-last, sum-le, sum-mono, sum-same}
 
 -- the bits that are read of a row of a matrix are P and N
@@ -54,8 +55,8 @@ module _ (m l k : ℕ) (A : Matrix) where
   pub place-more : (b total c w : ℕ) → w ≡ blockWidth l k b → total ≡ sum 0 b (countAt m l k A) → c ≡ blockCount m A (b * k) w → total + c ≡ sum 0 (b + 1) (countAt m l k A)
   place-more b n c w ew en ec = rw (add-one b) (sym (sum-last (countAt m l k A) b ∙ ap₂ _+_ (sym en) (ap (blockCount m A (b * k)) (sym ew) ∙ sym ec)))
 
-  pub place-small : (b n : ℕ) → m ≤ 1024 → l ≤ 1024 → 0 < k → k ≤ 8 → b ≤ blocks l k → n ≡ sum 0 b (countAt m l k A) → n < 2 ^ 32
-  place-small b n hm hl pos hk hb en = omega (arith, en, sum-mono (countAt m l k A) b (blocks l k) hb, total-counts m l k A, total-small m l k A hm hl pos hk)
+  pub place-small : (b n : ℕ) → m ≤ 1024 → l ≤ 1024 → k ≤ 8 → b ≤ blocks l k → n ≡ sum 0 b (countAt m l k A) → n ≤ 1050112
+  place-small b n hm hl hk hb en = omega (arith, en, sum-mono (countAt m l k A) b (blocks l k) hb, total-counts m l k A, total-most m l k A hm hl hk)
 
   -- no block up to b that comes after `block` begins at or before the steps done
   abbrev pub Last : ℕ → ℕ → ℕ → Type 0

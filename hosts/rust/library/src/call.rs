@@ -111,7 +111,7 @@ impl Name {
         }
     }
 
-    /// The numbers that it can give within the sizes, by document 01: 9 needs a longer list than there is.
+    /// The numbers that it can give, by document 01.
     pub fn numbers(self) -> &'static [u8] {
         match self {
             Name::Pack => &[0, 1, 4, 8],

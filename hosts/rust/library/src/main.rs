@@ -70,6 +70,7 @@ const ROUND: [Name; 27] = [
 fn main() {
     let (count, seed) = options::count_and_seed("library", ENOUGH);
     let mut met = Met::default();
+    Caller { random: &mut Random::new(seed, 0), place: "the longest list", met: &mut met }.longest();
     let mut made = [0; 14];
     let mut index = 0;
     while met.counts.calls < count {

@@ -1,4 +1,4 @@
-//! Calls that belong together: a job in random turns to its end, and a matrix packed and unpacked.
+//! Calls that belong together: a job in random turns to its end, a matrix packed and unpacked, and the longest list.
 
 use crate::call::{Call, Name, Part, Written};
 use crate::damage::disturbed;
@@ -83,6 +83,26 @@ impl Caller<'_> {
             self.differs(&pack, "words unpacked and packed are not the same");
         }
         self.met.round_trips += 2;
+        Some(())
+    }
+
+    /// No total exceeds 1,050,112, and ones and twos in turn meet it. A turn at that place finds its list ended, and one step further is too far.
+    pub fn longest(&mut self) -> Option<()> {
+        const LONGEST: u64 = 1_050_112;
+        let sizes = ((1024, 1024), (1024, 3));
+        let mut a = Digits::zero(1024, 1024);
+        a.cells.iter_mut().enumerate().for_each(|(place, digit)| *digit = 1 + (place % 2) as u8);
+        let total = Call { a: a.words(), ..making::made(self.random, Name::Total, sizes, 2) };
+        if self.call(&total)?.given != [LONGEST] {
+            self.differs(&total, "the longest list has another length");
+        }
+        for (steps, ended) in [(LONGEST, 1), (LONGEST + 1, 0)] {
+            let given = vec![1024, 1024, 3, 2, steps, 0, 0];
+            let turn = Call { a: a.words(), given, ..making::made(self.random, Name::Turn, sizes, 2) };
+            if self.call(&turn)?.given[5..] != [0, ended] {
+                self.differs(&turn, "a turn at the end of the longest list, or beyond it");
+            }
+        }
         Some(())
     }
 }

@@ -41,7 +41,7 @@ add-n : tie.Need-add-n Inv-loop μ-loop
 add-n c = omega (arith, mul-le-mul {n₁ = c .before .before .before .before .before .args .m} {m₁ = c .most .result} {n₂ = 1024} {m₂ = 2} (c .before .before .before .before .before .pre .0) (omega (arith, c .most .ensures)), shift-one (c .before .width .result) (omega (arith, c .before .width .ensures, width-le (c .before .before .before .before .before .args .l) (c .before .before .before .before .before .args .k) (c .before .before .before .loop .b), c .before .before .before .before .before .pre .3)), pow-small (c .before .width .result) (omega (arith, c .before .width .ensures, width-le (c .before .before .before .before .before .args .l) (c .before .before .before .before .before .args .k) (c .before .before .before .loop .b), c .before .before .before .before .before .pre .3)))
 
 add-n-2 : tie.Need-add-n-2 Inv-loop μ-loop
-add-n-2 c = omega (arith, mul-le-mul {n₁ = c .before .before .before .before .before .args .m} {m₁ = c .most .result} {n₂ = 1024} {m₂ = 2} (c .before .before .before .before .before .pre .0) (omega (arith, c .most .ensures)), shift-one (c .before .width .result) (omega (arith, c .before .width .ensures, width-le (c .before .before .before .before .before .args .l) (c .before .before .before .before .before .args .k) (c .before .before .before .loop .b), c .before .before .before .before .before .pre .3)), pow-small (c .before .width .result) (omega (arith, c .before .width .ensures, width-le (c .before .before .before .before .before .args .l) (c .before .before .before .before .before .args .k) (c .before .before .before .loop .b), c .before .before .before .before .before .pre .3)), quote-small (c .before .before .before .before .before .args .m) (c .before .before .before .before .before .args .l) (c .before .before .before .before .before .args .k) (c .before .before .before .loop .b) (c .before .before .before .loop .n) (c .before .before .before .before .before .pre .0) (c .before .before .before .before .before .pre .1) (c .before .before .before .before .before .pre .2) (c .before .before .before .before .before .pre .3) (omega (arith, c .before .before .before .before .blocks2 .ensures)) (c .before .before .before .loop .inv .1))
+add-n-2 c = omega (arith, mul-le-mul {n₁ = c .before .before .before .before .before .args .m} {m₁ = c .most .result} {n₂ = 1024} {m₂ = 2} (c .before .before .before .before .before .pre .0) (omega (arith, c .most .ensures)), shift-one (c .before .width .result) (omega (arith, c .before .width .ensures, width-le (c .before .before .before .before .before .args .l) (c .before .before .before .before .before .args .k) (c .before .before .before .loop .b), c .before .before .before .before .before .pre .3)), pow-small (c .before .width .result) (omega (arith, c .before .width .ensures, width-le (c .before .before .before .before .before .args .l) (c .before .before .before .before .before .args .k) (c .before .before .before .loop .b), c .before .before .before .before .before .pre .3)), quote-small (c .before .before .before .before .before .args .m) (c .before .before .before .before .before .args .l) (c .before .before .before .before .before .args .k) (c .before .before .before .loop .b) (c .before .before .before .loop .n) (c .before .before .before .before .before .pre .0) (c .before .before .before .before .before .pre .1) (c .before .before .before .before .before .pre .3) (omega (arith, c .before .before .before .before .blocks2 .ensures)) (c .before .before .before .loop .inv .1))
 
 add-b : tie.Need-add-b Inv-loop μ-loop
 add-b c = omega (arith, c .before .before .before .before .blocks2 .ok)

@@ -1,14 +1,10 @@
 use mathlib.Core.Path.{sym, ap, _∙_}
-use mathlib.Core.List.{[]}
 use Prim.Native.Nat.{ℕ}
-use borrow.Author.Tests.{lt-ltb, le-ltb}
 use Rattle.buffers.specs.Buffer.{cell}
-use Rattle.requests.specs.Answers.{first}
-use Rattle.requests.proofs.AnswerLaws.{append-given, append-none, here, later, refused, finished}
+use Rattle.requests.proofs.AnswerLaws.{refused, finished}
 use Rattle.steps.specs.Count.{total}
-use Rattle.matrix.specs.Job.{meant, countless}
-use Rattle.matrix.specs.Total.{listTests, totalTests, totalMeans}
-use Rattle.matrix.proofs.JobLaws.{meant-pos, meant-le, list-ready, list-positive}
+use Rattle.matrix.specs.Total.{totalMeans}
+use Rattle.matrix.proofs.JobLaws.{meant-pos, meant-le, total-ready}
 use borrow.Author.Needs.{needs}
 use native.Mathlib.Omega.{arith}
 use Rattle.matrix.proofs.total.total.Statement.{statement}
@@ -21,24 +17,20 @@ number-requires : tie.Need-number-requires
 number-requires c κs = search needs
 
 returns : tie.Need-returns
-unfolding totalMeans totalTests
-returns c = refused _ _ _ _ (λ z. c .if1 .taken (c .before .number .ensures ∙ z)) (append-given (listTests (c .before .before .before .before .args .x) (c .before .before .before .before .args .width) (c .before .before .before .before .args .a .now)) (countless (c .before .before .before .before .args .x) (meant (c .before .before .before .before .args .width)) (c .before .before .before .before .args .a .now)) (λ z. c .if1 .taken (c .before .number .ensures ∙ c .before .before .judged .ensures ∙ z)) ∙ sym (c .before .before .judged .ensures))
+unfolding totalMeans
+returns c = refused _ _ _ _ (λ z. c .if1 .taken (c .before .number .ensures ∙ z)) (sym (c .before .before .judged .ensures))
 
 meant-requires : tie.Need-meant-requires
 meant-requires c κs = search needs
 
 place-requires : tie.Need-place-requires
 place-requires c κs =
-    let r = list-ready (c .before .before .before .before .before .args .x) (c .before .before .before .before .before .args .width) (c .before .before .before .before .before .args .a .now) (sym (c .before .before .before .judged .ensures) ∙ sym (c .before .before .number .ensures) ∙ c .before .if1 .left) in
+    let r = total-ready (c .before .before .before .before .before .args .x) (c .before .before .before .before .before .args .width) (c .before .before .before .before .before .args .a .now) (sym (c .before .before .before .judged .ensures) ∙ sym (c .before .before .number .ensures) ∙ c .before .if1 .left) in
     (r .rows, r .columns, r .legal, omega (arith, c .meant .ensures, meant-pos (c .before .before .before .before .before .args .width)), omega (arith, c .meant .ensures, meant-le (c .before .before .before .before .before .args .width) (r .width)))
 
 returns-2 : tie.Need-returns-2
-unfolding totalMeans totalTests
-returns-2 c = refused _ _ _ 9 (λ z. omega arith) (append-none (listTests (c .before .before .before .before .before .before .before .args .x) (c .before .before .before .before .before .before .before .args .width) (c .before .before .before .before .before .before .before .args .a .now)) (countless (c .before .before .before .before .before .before .before .args .x) (meant (c .before .before .before .before .before .before .before .args .width)) (c .before .before .before .before .before .before .before .args .a .now)) (list-positive (c .before .before .before .before .before .before .before .args .x) (c .before .before .before .before .before .before .before .args .width) (c .before .before .before .before .before .before .before .args .a .now)) (sym (c .before .before .before .before .before .judged .ensures) ∙ sym (c .before .before .before .before .number .ensures) ∙ c .before .before .before .if1 .left) ∙ here _ 9 [] (lt-ltb 4294967295 _ (rw (c .before .place .ensures .total-is ∙ ap (λ (k : ℕ). total (c .before .before .before .before .before .before .before .args .x .rows) (c .before .before .before .before .before .before .before .args .x .columns) k (cell (c .before .before .before .before .before .before .before .args .x .columns) (c .before .before .before .before .before .before .before .args .a .now))) (c .before .before .meant .ensures)) at (c .if2 .taken))))
-
-returns-3 : tie.Need-returns-3
-unfolding totalMeans totalTests first
-returns-3 c = finished _ _ _ _ (append-none (listTests (c .before .before .before .before .before .before .before .args .x) (c .before .before .before .before .before .before .before .args .width) (c .before .before .before .before .before .before .before .args .a .now)) (countless (c .before .before .before .before .before .before .before .args .x) (meant (c .before .before .before .before .before .before .before .args .width)) (c .before .before .before .before .before .before .before .args .a .now)) (list-positive (c .before .before .before .before .before .before .before .args .x) (c .before .before .before .before .before .before .before .args .width) (c .before .before .before .before .before .before .before .args .a .now)) (sym (c .before .before .before .before .before .judged .ensures) ∙ sym (c .before .before .before .before .number .ensures) ∙ c .before .before .before .if1 .left) ∙ later _ 9 [] (le-ltb 4294967295 _ (rw (c .before .place .ensures .total-is ∙ ap (λ (k : ℕ). total (c .before .before .before .before .before .before .before .args .x .rows) (c .before .before .before .before .before .before .before .args .x .columns) k (cell (c .before .before .before .before .before .before .before .args .x .columns) (c .before .before .before .before .before .before .before .args .a .now))) (c .before .before .meant .ensures)) at (c .if2 .left)))) (c .before .place .ensures .total-is ∙ ap (λ (k : ℕ). total (c .before .before .before .before .before .before .before .args .x .rows) (c .before .before .before .before .before .before .before .args .x .columns) k (cell (c .before .before .before .before .before .before .before .args .x .columns) (c .before .before .before .before .before .before .before .args .a .now))) (c .before .before .meant .ensures))
+unfolding totalMeans
+returns-2 c = finished _ _ _ _ (sym (c .before .before .before .before .judged .ensures) ∙ sym (c .before .before .before .number .ensures) ∙ c .before .before .if1 .left) (c .place .ensures .total-is ∙ ap (λ (k : ℕ). total (c .before .before .before .before .before .before .args .x .rows) (c .before .before .before .before .before .before .args .x .columns) k (cell (c .before .before .before .before .before .before .args .x .columns) (c .before .before .before .before .before .before .args .a .now))) (c .before .meant .ensures))
 
 pub total-spec : {M : Type 1} → statement M
 total-spec =
@@ -49,5 +41,4 @@ total-spec =
     returns
     meant-requires
     place-requires
-    returns-2
-    returns-3)
+    returns-2)

@@ -1,7 +1,7 @@
 use mathlib.Core.Path.{refl, sym, _∙_}
 use Rattle.requests.proofs.AnswerLaws.{refused, finished}
 use Rattle.matrix.specs.Turn.{turnMeans}
-use Rattle.matrix.proofs.JobLaws.{standing-ready, turn-given, turn-countless, turn-exceeds, turn-none}
+use Rattle.matrix.proofs.JobLaws.{standing-ready, turn-given, turn-exceeds, turn-none}
 use borrow.Author.Needs.{needs}
 use native.Mathlib.Omega.{arith}
 use Rattle.matrix.proofs.turn.turn.Statement.{statement}
@@ -47,13 +47,13 @@ same-length-4 c = search needs
 returns-2 : tie.Need-returns-2
 unfolding turnMeans
 returns-2 c =
-    let s = c .before .before .before .before .before .before .before .before .before .before .before .before .before in
-    let total = c .before .before .before .place .ensures .total-is in
+    let s = c .before .before .before .before .before .before .before .before .before .before .before .before .before .before in
+    let total = c .before .before .before .before .place .ensures .total-is in
     rw (c .refused2 .ensures .0, c .refused2 .ensures .1, c .refused2 .ensures .2, c .refused2 .ensures .3)
-    (refused _ _ _ 9 (λ z. omega arith) (turn-countless (s .args .job) (s .args .a .now) (s .args .b .now) (s .args .table .now) (s .args .product .now) (sym (c .before .before .before .before .before .before .judged .ensures) ∙ sym (c .before .before .before .before .before .number .ensures) ∙ c .before .before .before .before .if1 .left) (rw total at (c .before .if2 .taken))))
+    (refused _ _ _ 7 (λ z. omega arith) (turn-exceeds (s .args .job) (s .args .a .now) (s .args .b .now) (s .args .table .now) (s .args .product .now) (sym (c .before .before .before .before .before .before .before .judged .ensures) ∙ sym (c .before .before .before .before .before .before .number .ensures) ∙ c .before .before .before .before .before .if1 .left) (rw total at (c .before .if2 .taken))))
 
-refused-requires-3 : tie.Need-refused-requires-3
-refused-requires-3 c κs = search needs
+accepted-requires : tie.Need-accepted-requires
+accepted-requires c κs = ((sym (c .before .before .before .before .before .before .before .before .judged .ensures) ∙ sym (c .before .before .before .before .before .before .before .number .ensures) ∙ c .before .before .before .before .before .before .if1 .left), c .before .before .before .before .before .place .ensures, c .before .before .if2 .left)
 
 same-length-5 : tie.Need-same-length-5
 same-length-5 c = search needs
@@ -64,28 +64,11 @@ same-length-6 c = search needs
 returns-3 : tie.Need-returns-3
 unfolding turnMeans
 returns-3 c =
-    let s = c .before .before .before .before .before .before .before .before .before .before .before .before .before .before .before .before in
-    let total = c .before .before .before .before .before .before .place .ensures .total-is in
-    rw (c .refused3 .ensures .0, c .refused3 .ensures .1, c .refused3 .ensures .2, c .refused3 .ensures .3)
-    (refused _ _ _ 7 (λ z. omega arith) (turn-exceeds (s .args .job) (s .args .a .now) (s .args .b .now) (s .args .table .now) (s .args .product .now) (sym (c .before .before .before .before .before .before .before .before .before .judged .ensures) ∙ sym (c .before .before .before .before .before .before .before .before .number .ensures) ∙ c .before .before .before .before .before .before .before .if1 .left) (rw total at (c .before .before .before .before .if2 .left)) (rw total at (c .before .if3 .taken))))
-
-accepted-requires : tie.Need-accepted-requires
-accepted-requires c κs = ((sym (c .before .before .before .before .before .before .before .before .before .before .judged .ensures) ∙ sym (c .before .before .before .before .before .before .before .before .before .number .ensures) ∙ c .before .before .before .before .before .before .before .before .if1 .left), c .before .before .before .before .before .before .before .place .ensures, c .before .before .before .before .before .if2 .left, c .before .before .if3 .left)
-
-same-length-7 : tie.Need-same-length-7
-same-length-7 c = search needs
-
-same-length-8 : tie.Need-same-length-8
-same-length-8 c = search needs
-
-returns-4 : tie.Need-returns-4
-unfolding turnMeans
-returns-4 c =
-    let s = c .before .before .before .before .before .before .before .before .before .before .before .before .before .before .before .before .before .before .before .before .before .before in
-    let total = c .before .before .before .before .before .before .before .before .before .before .before .before .place .ensures .total-is in
+    let s = c .before .before .before .before .before .before .before .before .before .before .before .before .before .before .before .before .before .before .before .before in
+    let total = c .before .before .before .before .before .before .before .before .before .before .place .ensures .total-is in
     let done = c .before .before .before .before .accepted .ensures in
     rw (done .0, done .1)
-    (finished _ _ _ _ (turn-none (s .args .job) (s .args .a .now) (s .args .b .now) (s .args .table .now) (s .args .product .now) (sym (c .before .before .before .before .before .before .before .before .before .before .before .before .before .before .before .judged .ensures) ∙ sym (c .before .before .before .before .before .before .before .before .before .before .before .before .before .before .number .ensures) ∙ c .before .before .before .before .before .before .before .before .before .before .before .before .before .if1 .left) (rw total at (c .before .before .before .before .before .before .before .before .before .before .if2 .left)) (rw total at (c .before .before .before .before .before .before .before .if3 .left))) refl)
+    (finished _ _ _ _ (turn-none (s .args .job) (s .args .a .now) (s .args .b .now) (s .args .table .now) (s .args .product .now) (sym (c .before .before .before .before .before .before .before .before .before .before .before .before .before .judged .ensures) ∙ sym (c .before .before .before .before .before .before .before .before .before .before .before .before .number .ensures) ∙ c .before .before .before .before .before .before .before .before .before .before .before .if1 .left) (rw total at (c .before .before .before .before .before .before .before .if2 .left))) refl)
 
 pub turn-spec : {M : Type 1} → statement M
 turn-spec =
@@ -102,11 +85,7 @@ turn-spec =
     same-length-3
     same-length-4
     returns-2
-    refused-requires-3
+    accepted-requires
     same-length-5
     same-length-6
-    returns-3
-    accepted-requires
-    same-length-7
-    same-length-8
-    returns-4)
+    returns-3)

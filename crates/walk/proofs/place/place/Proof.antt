@@ -32,7 +32,7 @@ block-count-requires : tie.Need-block-count-requires Inv-loop μ-loop
 block-count-requires c κs = (c .before .before .before .before .before .pre .0, c .before .before .before .before .before .pre .1, c .before .before .before .before .before .pre .2, omega (arith, c .width .ensures, width-pos (c .before .before .before .before .before .args .l) (c .before .before .before .before .before .args .k) (c .before .before .loop .b) (c .before .before .before .before .before .pre .3) (omega (arith, c .before .before .before .blocks2 .ensures))), omega (arith, c .width .ensures, width-le (c .before .before .before .before .before .args .l) (c .before .before .before .before .before .args .k) (c .before .before .loop .b)), omega (arith, c .width .ensures, width-within (c .before .before .before .before .before .args .l) (c .before .before .before .before .before .args .k) (c .before .before .loop .b) (c .before .before .before .before .before .pre .3) (omega (arith, c .before .before .before .blocks2 .ensures))))
 
 add-total : tie.Need-add-total Inv-loop μ-loop
-add-total c = omega (arith, place-small (c .before .before .before .before .before .before .args .m) (c .before .before .before .before .before .before .args .l) (c .before .before .before .before .before .before .args .k) (cell (c .before .before .before .before .before .before .args .l) (c .before .before .before .before .before .before .args .a .now)) (c .before .before .before .loop .b + 1) _ (c .before .before .before .before .before .before .pre .0) (c .before .before .before .before .before .before .pre .1) (c .before .before .before .before .before .before .pre .3) (c .before .before .before .before .before .before .pre .4) (omega (arith, c .before .before .before .before .blocks2 .ensures)) (place-more (c .before .before .before .before .before .before .args .m) (c .before .before .before .before .before .before .args .l) (c .before .before .before .before .before .before .args .k) (cell (c .before .before .before .before .before .before .args .l) (c .before .before .before .before .before .before .args .a .now)) (c .before .before .before .loop .b) (c .before .before .before .loop .total) _ _ (c .before .width .ensures) (c .before .before .before .loop .inv .1) (c .block-count .ensures)))
+add-total c = omega (arith, place-small (c .before .before .before .before .before .before .args .m) (c .before .before .before .before .before .before .args .l) (c .before .before .before .before .before .before .args .k) (cell (c .before .before .before .before .before .before .args .l) (c .before .before .before .before .before .before .args .a .now)) (c .before .before .before .loop .b + 1) _ (c .before .before .before .before .before .before .pre .0) (c .before .before .before .before .before .before .pre .1) (c .before .before .before .before .before .before .pre .4) (omega (arith, c .before .before .before .before .blocks2 .ensures)) (place-more (c .before .before .before .before .before .before .args .m) (c .before .before .before .before .before .before .args .l) (c .before .before .before .before .before .before .args .k) (cell (c .before .before .before .before .before .before .args .l) (c .before .before .before .before .before .before .args .a .now)) (c .before .before .before .loop .b) (c .before .before .before .loop .total) _ _ (c .before .width .ensures) (c .before .before .before .loop .inv .1) (c .block-count .ensures)))
 
 add-b : tie.Need-add-b Inv-loop μ-loop
 add-b c = omega (arith, c .before .before .before .before .blocks2 .ok)
