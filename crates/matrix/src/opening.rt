@@ -9,7 +9,7 @@ use super::job::meant;
 use super::misfit::misfit;
 use requests::Answer;
 use requests::Size;
-use requests::faults::fault;
+use requests::faults::either_fault;
 use requests::number;
 use requests::sizes::either_over;
 use rows::clear::clear;
@@ -35,11 +35,7 @@ pub fn judged(x: Size, y: Size, width: u64, a: &[u64], b: &[u64], t: usize, p: u
     if misfit(x, y, meant(width), a.len(), b.len(), t, p) {
         return Answer::LengthWrong;
     }
-    let f = fault(x, a);
-    if number(f) != 0 {
-        return f;
-    }
-    fault(y, b)
+    either_fault(x, y, a, b)
 }
 
 // Zero in a whole buffer.

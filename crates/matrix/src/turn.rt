@@ -2,19 +2,16 @@
 ghost use mathlib.Core.Path.{_≡_};
 ghost use mathlib.Core.Bool.{false};
 ghost use Prim.Native.Nat.{_≤_};
-ghost use lib.ListN.{length};
 ghost use Rattle.buffers.specs.Buffer.{cell};
 ghost use Rattle.requests.specs.Answers.{number, first};
-ghost use Rattle.requests.specs.Sizes.{over, unfit};
 ghost use Rattle.walk.specs.Place.{StandsAt};
-ghost use Rattle.requests.specs.Faults.{pairFaults};
 ghost use Rattle.matrix.specs.Job.{unwide};
 ghost use Rattle.matrix.specs.Turn.{foundTests, turnedOf, turnMeans};
 use super::job::Job;
 use super::misfit::misfit;
 use requests::Answer;
 use requests::Size;
-use requests::faults::fault;
+use requests::faults::either_fault;
 use requests::number;
 use requests::sizes::either_over;
 use walk::Left;
@@ -39,18 +36,6 @@ pub fn unwide(width: u64) -> bool
         return true;
     }
     width > 8
-}
-
-// The faults of two buffers of the right length, the first one's first.
-fn either_fault(x: Size, y: Size, a: &[u64], b: &[u64]) -> Answer
-    requires { ⌜ (over x ≡ false) × (over y ≡ false) × (unfit x (length (now a)) ≡ false) × (unfit y (length (now b)) ≡ false) ⌝ }
-    ensures { λ r. ⌜ number r ≡ first (pairFaults x y (now (a .entry)) (now (b .entry))) ⌝ }
-{
-    let f = fault(x, a);
-    if number(f) != 0 {
-        return f;
-    }
-    fault(y, b)
 }
 
 // The tests of sizes, width, lengths and cells.

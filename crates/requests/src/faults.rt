@@ -7,9 +7,10 @@ ghost use Rattle.buffers.specs.Buffer.{words};
 ghost use Rattle.buffers.specs.Fault.{stray, padded};
 ghost use Rattle.requests.specs.Answers.{number, first};
 ghost use Rattle.requests.specs.Sizes.{over, unfit};
-ghost use Rattle.requests.specs.Faults.{faults};
+ghost use Rattle.requests.specs.Faults.{faults, pairFaults};
 use crate::Answer;
 use crate::Size;
+use crate::number;
 use buffers::planes::planes;
 
 // The sign bits without unit of all rows, padding included, laid over one another: no test in the loop, as a legal buffer is read to its end anyway.
@@ -90,4 +91,16 @@ pub fn fault(s: Size, a: &[u64]) -> Answer
         return Answer::PaddingSet;
     }
     Answer::Done
+}
+
+// The faults of two buffers, the first one's first.
+pub fn either_fault(x: Size, y: Size, a: &[u64], b: &[u64]) -> Answer
+    requires { ⌜ (over x ≡ false) × (over y ≡ false) × (unfit x (length (now a)) ≡ false) × (unfit y (length (now b)) ≡ false) ⌝ }
+    ensures { λ r. ⌜ number r ≡ first (pairFaults x y (now (a .entry)) (now (b .entry))) ⌝ }
+{
+    let f = fault(x, a);
+    if number(f) != 0 {
+        return f;
+    }
+    fault(y, b)
 }

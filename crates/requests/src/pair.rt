@@ -4,12 +4,11 @@ ghost use mathlib.Core.Bool.{false, _||_};
 ghost use Rattle.requests.specs.Answers.{number, first};
 ghost use Rattle.requests.specs.Sizes.{over};
 ghost use Rattle.requests.specs.Pair.{unequal, unfits, pairTests};
-use super::faults::fault;
+use super::faults::either_fault;
 use super::sizes::either_over;
 use super::sizes::unfit;
 use crate::Answer;
 use crate::Size;
-use crate::number;
 
 fn unequal(x: Size, y: Size) -> bool
     ensures { λ r. ⌜ r ≡ unequal x y ⌝ }
@@ -46,9 +45,5 @@ pub fn judged(x: Size, y: Size, a: &[u64], b: &[u64], n: usize) -> Answer
     if unfits(x, y, a.len(), b.len(), n) {
         return Answer::LengthWrong;
     }
-    let f = fault(x, a);
-    if number(f) != 0 {
-        return f;
-    }
-    fault(y, b)
+    either_fault(x, y, a, b)
 }

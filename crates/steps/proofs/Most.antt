@@ -39,7 +39,7 @@ widths-sum l k (suc n) = omega (arith, sum-last (blockWidth l k) n, widths-sum l
 pub quote-most : (m l k : ℕ) → m ≤ 1024 → l ≤ 1024 → k ≤ 8 → quote m l k ≤ 1050112
 unfolding quote
 quote-most m l k hm hl hk =
-    omega (arith, sum-twice (λ b. (2 ^ blockWidth l k b - 1) + m * min 2 (blockWidth l k b)) (blockWidth l k) 2051 (λ b. block-most m (blockWidth l k b) hm (omega (arith, width-le l k b))) (blocks l k) 0, widths-sum l k (blocks l k))
+    omega (arith, sum-twice _ _ 2051 (λ b. block-most m (blockWidth l k b) hm (omega (arith, width-le l k b))) (blocks l k) 0, widths-sum l k (blocks l k))
 
 pub total-most : (m l k : ℕ) (A : Matrix) → m ≤ 1024 → l ≤ 1024 → k ≤ 8 → total m l k A ≤ 1050112
 total-most m l k A hm hl hk = omega (arith, total-le m l k A, quote-most m l k hm hl hk)

@@ -3,9 +3,6 @@ use borrow.Author.Tests.{eq-eqb, ne-eqb, lt-ltb, le-ltb}
 use Rattle.cells.proofs.AnyLaws.{or-left, or-right}
 use Rattle.requests.specs.Answers.{first}
 use Rattle.requests.specs.Sizes.{over}
-use Rattle.requests.specs.Faults.{faults}
-use Rattle.requests.proofs.AnswerLaws.{append-given, append-none}
-use Rattle.requests.proofs.PairLaws.{faults-positive}
 use Rattle.matrix.specs.Job.{meant}
 use Rattle.matrix.specs.Opening.{openingTests}
 use Rattle.matrix.proofs.JobLaws.{meant-le, fit-a, fit-b}
@@ -39,26 +36,20 @@ returns-4 : tie.Need-returns-4
 unfolding openingTests first
 returns-4 c = rw (sym (c .before .before .before .before .before .before .before .before .either-over .ensures) ∙ c .before .before .before .before .before .before .before .if1 .left, eq-eqb _ _ (c .before .before .before .before .if2 .left), le-ltb 8 (c .before .before .before .before .before .before .before .before .before .before .before .args .width) (c .before .before .before .if3 .left), sym (rw (c .before .before .meant .ensures) at (c .before .misfit .ensures)) ∙ c .if4 .taken)
 
-fault-requires : tie.Need-fault-requires
-fault-requires c κs = (or-left (over (c .before .before .before .before .before .before .before .before .before .before .before .args .x)) (over (c .before .before .before .before .before .before .before .before .before .before .before .args .y)) (sym (c .before .before .before .before .before .before .before .before .either-over .ensures) ∙ c .before .before .before .before .before .before .before .if1 .left), fit-a (c .before .before .before .before .before .before .before .before .before .before .before .args .x) (c .before .before .before .before .before .before .before .before .before .before .before .args .y) (meant (c .before .before .before .before .before .before .before .before .before .before .before .args .width)) _ _ _ _ (sym (rw (c .before .before .meant .ensures) at (c .before .misfit .ensures)) ∙ c .if4 .left))
-
-number-requires : tie.Need-number-requires
-number-requires c κs = search needs
+either-fault-requires : tie.Need-either-fault-requires
+either-fault-requires c κs =
+    let over-none = sym (c .before .before .before .before .before .before .before .before .either-over .ensures) ∙ c .before .before .before .before .before .before .before .if1 .left in
+    let misfit-none = sym (rw (c .before .before .meant .ensures) at (c .before .misfit .ensures)) ∙ c .if4 .left in
+    let x = c .before .before .before .before .before .before .before .before .before .before .before .args .x in
+    let y = c .before .before .before .before .before .before .before .before .before .before .before .args .y in
+    let k = meant (c .before .before .before .before .before .before .before .before .before .before .before .args .width) in
+    (or-left (over x) (over y) over-none, or-right (over x) (over y) over-none, fit-a x y k _ _ _ _ misfit-none, fit-b x y k _ _ _ _ misfit-none)
 
 returns-5 : tie.Need-returns-5
 unfolding openingTests first
 returns-5 c =
-    rw (sym (c .before .before .before .before .before .before .before .before .before .before .before .either-over .ensures) ∙ c .before .before .before .before .before .before .before .before .before .before .if1 .left, eq-eqb _ _ (c .before .before .before .before .before .before .before .if2 .left), le-ltb 8 (c .before .before .before .before .before .before .before .before .before .before .before .before .before .before .args .width) (c .before .before .before .before .before .before .if3 .left), sym (rw (c .before .before .before .before .before .meant .ensures) at (c .before .before .before .before .misfit .ensures)) ∙ c .before .before .before .if4 .left)
-    (c .before .before .fault .ensures ∙ sym (append-given (faults (c .before .before .before .before .before .before .before .before .before .before .before .before .before .before .args .x) (c .before .before .before .before .before .before .before .before .before .before .before .before .before .before .args .a .now)) (faults (c .before .before .before .before .before .before .before .before .before .before .before .before .before .before .args .y) (c .before .before .before .before .before .before .before .before .before .before .before .before .before .before .args .b .now)) (λ z. c .if5 .taken (c .before .number .ensures ∙ c .before .before .fault .ensures ∙ z))))
-
-fault-requires-2 : tie.Need-fault-requires-2
-fault-requires-2 c κs = (or-right (over (c .before .before .before .before .before .before .before .before .before .before .before .before .before .before .args .x)) (over (c .before .before .before .before .before .before .before .before .before .before .before .before .before .before .args .y)) (sym (c .before .before .before .before .before .before .before .before .before .before .before .either-over .ensures) ∙ c .before .before .before .before .before .before .before .before .before .before .if1 .left), fit-b (c .before .before .before .before .before .before .before .before .before .before .before .before .before .before .args .x) (c .before .before .before .before .before .before .before .before .before .before .before .before .before .before .args .y) (meant (c .before .before .before .before .before .before .before .before .before .before .before .before .before .before .args .width)) _ _ _ _ (sym (rw (c .before .before .before .before .before .meant .ensures) at (c .before .before .before .before .misfit .ensures)) ∙ c .before .before .before .if4 .left))
-
-returns-6 : tie.Need-returns-6
-unfolding openingTests first
-returns-6 c =
-    rw (sym (c .before .before .before .before .before .before .before .before .before .before .before .before .either-over .ensures) ∙ c .before .before .before .before .before .before .before .before .before .before .before .if1 .left, eq-eqb _ _ (c .before .before .before .before .before .before .before .before .if2 .left), le-ltb 8 (c .before .before .before .before .before .before .before .before .before .before .before .before .before .before .before .args .width) (c .before .before .before .before .before .before .before .if3 .left), sym (rw (c .before .before .before .before .before .before .meant .ensures) at (c .before .before .before .before .before .misfit .ensures)) ∙ c .before .before .before .before .if4 .left)
-    (c .fault2 .ensures ∙ sym (append-none (faults (c .before .before .before .before .before .before .before .before .before .before .before .before .before .before .before .args .x) (c .before .before .before .before .before .before .before .before .before .before .before .before .before .before .before .args .a .now)) (faults (c .before .before .before .before .before .before .before .before .before .before .before .before .before .before .before .args .y) (c .before .before .before .before .before .before .before .before .before .before .before .before .before .before .before .args .b .now)) (faults-positive _ _) (sym (c .before .before .before .fault .ensures) ∙ sym (c .before .before .number .ensures) ∙ c .before .if5 .left)))
+    rw (sym (c .before .before .before .before .before .before .before .before .before .either-over .ensures) ∙ c .before .before .before .before .before .before .before .before .if1 .left, eq-eqb _ _ (c .before .before .before .before .before .if2 .left), le-ltb 8 (c .before .before .before .before .before .before .before .before .before .before .before .before .args .width) (c .before .before .before .before .if3 .left), sym (rw (c .before .before .before .meant .ensures) at (c .before .before .misfit .ensures)) ∙ c .before .if4 .left)
+    (c .either-fault .ensures)
 
 pub judged-spec : {M : Type 1} → statement M
 judged-spec =
@@ -71,8 +62,5 @@ judged-spec =
     meant-requires
     misfit-requires
     returns-4
-    fault-requires
-    number-requires
-    returns-5
-    fault-requires-2
-    returns-6)
+    either-fault-requires
+    returns-5)

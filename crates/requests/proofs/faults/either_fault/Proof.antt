@@ -1,10 +1,10 @@
 use mathlib.Core.Path.{sym, _∙_}
 use Rattle.requests.specs.Faults.{faults}
 use Rattle.requests.proofs.AnswerLaws.{append-given, append-none}
 use Rattle.requests.proofs.PairLaws.{faults-positive}
 use borrow.Author.Needs.{needs}
-use Rattle.matrix.proofs.turn.either_fault.Statement.{statement}
-use Rattle.matrix.proofs.turn.either_fault.Tie as tie
+use Rattle.requests.proofs.faults.either_fault.Statement.{statement}
+use Rattle.requests.proofs.faults.either_fault.Tie as tie
 
 fault-requires : tie.Need-fault-requires
 fault-requires c κs = search needs
