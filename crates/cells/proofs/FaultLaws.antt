@@ -1,17 +1,19 @@
 -- What the word tests of a pair of words say of its places. Assumes nothing.
 use mathlib.Core.Path.{_≡_, refl, sym, ap, _∙_}
 use mathlib.Core.Bool.{Bool, true, false}
-use Prim.Native.Nat.{ℕ, _+_, _-_, _/_, _^_, _≤_, _<_, min, max}
+use Prim.Native.Nat.{ℕ, zero, suc, _+_, _-_, _/_, _^_, _≤_, _<_, min, max}
 use native.Mathlib.Omega.{arith}
 use native.Mathlib.Decide.{decLt}
 use lib.Dec.{ltb}
 use lib.Bits.{bitAnd, bitOr, bitXor, differ, and-lt, or-lt, xor-lt}
 use lib.Pow.{shr-le}
-use borrow.Author.Tests.{ltb-false, le-ltb}
-use Rattle.cells.specs.Any.{any}
+use borrow.Author.Tests.{ltb-false, le-ltb, lt-ltb}
+use Rattle.cells.specs.Any.{any, least}
 use Rattle.cells.specs.Bit.{bit}
 use Rattle.cells.specs.Pair.{digit}
+use Rattle.cells.specs.Lowest.{Peels}
 use Rattle.cells.proofs.AnyLaws.{any-none, any-at}
+use Rattle.cells.proofs.LeastLaws.{true-false, least-of}
 use Rattle.cells.proofs.BitLaws.{bit-lt, bits, bit-and, bit-or, bit-xor}
 use Rattle.cells.proofs.WordLaws.{ext, bit-shr, bit-high, bit-of-zero}
 use Rattle.cells.proofs.MaskLaws.{low-in, low-out, low-lt}
@@ -72,3 +74,40 @@ module _ (u s n : ℕ) where
       go : (t : ℕ) → ((i : ℕ) → i < 64 - n → ltb 0 (bit u (n + i) + bit s (n + i)) ≡ false) → Dec (n + t < 64) → max (bit u (n + t)) (bit s (n + t)) ≡ 0
       go t h (yes l) = omega (arith, ltb-false 0 (bit u (n + t) + bit s (n + t)) (h t (omega arith)))
       go t h (no m) = omega (arith, bit-high 64 u (n + t) hu (omega arith), bit-high 64 s (n + t) hs (omega arith))
+
+-- ---- the first place, which is that of the lowest set bit of a word of faults
+
+-- f holds exactly where the word has a bit
+module _ (w m : ℕ) (f : ℕ → Bool) (clear : (t : ℕ) → bit w t ≡ 0 → f t ≡ false) where
+  pub some-bit : any m f ≡ true → 0 < w
+  some-bit h = go w refl
+    where
+      go : (v : ℕ) → w ≡ v → 0 < v
+      go zero e = absurd (true-false (any m f) h (any-none f m (λ t l. clear t (ap (λ (x : ℕ). bit x t) e ∙ bit-of-zero t))))
+      go (suc v) e = omega arith
+
+  pub first-bit : any m f ≡ true → ((t : ℕ) → bit w t ≡ 1 → f t ≡ true) → (k t rest : ℕ) → Peels k w t rest → least m f ≡ t
+  first-bit h set k t rest P = least-of f m t h (set t (P .set)) (any-none f t (λ i l. clear i (P .below i l)))
+
+module _ (u s : ℕ) where
+  bad-bit : (t : ℕ) → bit (bitAnd s (bitXor s u)) t ≡ min (bit s t) (differ (bit s t) (bit u t))
+  bad-bit t = simp (bit-and, bit-xor)
+
+  pub stray-clear : (t : ℕ) → bit (bitAnd s (bitXor s u)) t ≡ 0 → ltb (bit u t) (bit s t) ≡ false
+  stray-clear t e = le-ltb _ _ (bad-zero (bit u t) (bit s t) (bit-lt u t) (bit-lt s t) (sym (bad-bit t) ∙ e))
+
+  pub stray-set : (t : ℕ) → bit (bitAnd s (bitXor s u)) t ≡ 1 → ltb (bit u t) (bit s t) ≡ true
+  stray-set t e = go (decLt (bit u t) (bit s t))
+    where
+      go : Dec (bit u t < bit s t) → ltb (bit u t) (bit s t) ≡ true
+      go (yes l) = lt-ltb _ _ l
+      go (no l) = absurd (omega (arith, zero-bad (bit u t) (bit s t) (bit-lt u t) (bit-lt s t) (omega arith), bad-bit t, e))
+
+module _ (u s n : ℕ) where
+  pub padded-clear : (t : ℕ) → bit (bitOr u s / 2 ^ n) t ≡ 0 → ltb 0 (digit u s (n + t)) ≡ false
+  unfolding digit
+  padded-clear t e = le-ltb 0 (bit u (n + t) + bit s (n + t)) (omega (arith, padded-bit u s n t, e))
+
+  pub padded-set : (t : ℕ) → bit (bitOr u s / 2 ^ n) t ≡ 1 → ltb 0 (digit u s (n + t)) ≡ true
+  unfolding digit
+  padded-set t e = lt-ltb 0 (bit u (n + t) + bit s (n + t)) (omega (arith, padded-bit u s n t, e))

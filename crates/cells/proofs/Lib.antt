@@ -7,6 +7,7 @@ pub mod FormLaws
 pub mod EncodeLaws
 pub mod ScalingLaws
 pub mod AnyLaws
+pub mod LeastLaws
 pub mod FaultLaws
 pub mod SumLaws
 pub mod CountLaws

@@ -8,10 +8,11 @@ use native.Mathlib.Omega.{arith}
 use lib.Dec.{ltb}
 use lib.ListN.{getD}
 use lib.Bits.{bitAnd, bitOr, bitXor, and-lt, xor-lt}
-use Rattle.cells.specs.Any.{any}
+use Rattle.cells.specs.Any.{any, least, First}
 use Rattle.cells.specs.Bit.{bit}
 use Rattle.cells.specs.Pair.{digit, LegalPair}
 use Rattle.cells.proofs.AnyLaws.{any-none, any-at, any-split, any-cong, or-yes}
+use Rattle.cells.proofs.LeastLaws.{true-false, least-first, least-of, least-cong}
 use Rattle.cells.proofs.BitLaws.{bit-lt, bit-and, bit-or}
 use Rattle.cells.proofs.WordLaws.{ext, bit-high, bit-of-zero}
 use Rattle.cells.proofs.MaskLaws.{low-in}
@@ -20,7 +21,7 @@ use Rattle.buffers.specs.Buffer.{planes, bitAt}
 use Rattle.buffers.proofs.SizeLaws.{planes-room, planes-tight, bitAt-word}
 use borrow.Author.Tests.{ltb-false}
 use Rattle.rows.specs.Row.{digitAt, column, LegalRow}
-use Rattle.rows.specs.Fault.{strayRow, paddedRow, Found}
+use Rattle.rows.specs.Fault.{strayRow, paddedRow, strayColumn, paddedColumn, Found}
 
 -- ---- words in which faults are gathered
 
@@ -157,3 +158,66 @@ padded-last ws x q c u s e ne eu es =
     let m : (c + t) % 64 ≡ c % 64 + t = omega arith in
     let a : x + q + (q - 1) ≡ x + (q - 1) + q = omega arith in
     rw (d, m, a, eu, es)))
+
+-- ---- the first column of a fault
+
+module _ (ws : List ℕ) (x q p u s : ℕ) (eu : u ≡ getD ws (x + p) 0) (es : s ≡ getD ws (x + p + q) 0) where
+  abbrev lone : ℕ → Bool
+  lone t = ltb (bit u t) (bit s t)
+
+  abbrev along : ℕ → Bool
+  along j = ltb (bitAt ws x j) (bitAt ws (x + q) j)
+
+  at-place : (t : ℕ) → t < 64 → along (64 * p + t) ≡ lone t
+  at-place t l =
+      let e : x + q + p ≡ x + p + q = omega arith in
+      rw (bitAt-word ws x p t l, bitAt-word ws (x + q) p t l, e, ← eu, ← es)
+
+  -- no stray sign up to pair p, and none in it
+  pub stray-next : strayRow ws x q (64 * p) ≡ false → any 64 lone ≡ false → strayRow ws x q (64 * (p + 1)) ≡ false
+  unfolding strayRow
+  stray-next h k =
+      let e : 64 * (p + 1) ≡ 64 * p + 64 = omega arith in
+      rw (e, any-split along (64 * p) 64, h) (any-none (λ t. along (64 * p + t)) 64 (λ t l. at-place t l ∙ any-at lone 64 k t l))
+
+  -- none up to pair p, and one in it
+  pub stray-here : (c : ℕ) → strayRow ws x q c ≡ true → strayRow ws x q (64 * p) ≡ false → any 64 lone ≡ true → 64 * p + least 64 lone ≡ strayColumn ws x q c
+  unfolding strayRow strayColumn
+  stray-here c h k e =
+      let F : First 64 lone (least 64 lone) = least-first lone 64 e in
+      let none : any (64 * p + least 64 lone) along ≡ false =
+      rw (any-split along (64 * p) (least 64 lone), k) (any-none (λ t. along (64 * p + t)) (least 64 lone) (λ t l. at-place t (omega (arith, F .within)) ∙ any-at lone (least 64 lone) (F .none) t l)) in
+      sym (least-of along c (64 * p + least 64 lone) h (at-place (least 64 lone) (F .within) ∙ F .holds) none)
+
+pub stray-begin : (ws : List ℕ) (x q : ℕ) → strayRow ws x q (64 * 0) ≡ false
+unfolding strayRow any
+stray-begin ws x q = refl
+
+-- a row with a fault has one in its words
+pub stray-nowhere : (ws : List ℕ) (x q c : ℕ) → q ≡ planes c → strayRow ws x q c ≡ true → strayRow ws x q (64 * q) ≡ false → ⊥
+stray-nowhere ws x q c e h k = true-false (strayRow ws x q c) h (stray-fewer ws x q c (64 * q) (omega (arith, planes-room c)) k)
+
+pub padded-partly : (ws : List ℕ) (x q c : ℕ) → q ≡ planes c → paddedRow ws x q c ≡ true → c % 64 ≡ 0 → ⊥
+padded-partly ws x q c e h z = true-false (paddedRow ws x q c) h (sym (padded-full ws x q c e z))
+
+pub padded-some-word : (ws : List ℕ) (x q c : ℕ) → q ≡ planes c → paddedRow ws x q c ≡ true → 0 < q
+padded-some-word ws x q c e h = go q refl
+  where
+    go : (k : ℕ) → q ≡ k → 0 < k
+    go zero z = absurd (padded-partly ws x q c e h (omega (arith, planes-room c)))
+    go (suc k) z = omega arith
+
+pub padded-first : (ws : List ℕ) (x q c u s : ℕ) → q ≡ planes c → (c % 64 ≡ 0 → ⊥) → u ≡ getD ws (x + (q - 1)) 0 → s ≡ getD ws (x + (q - 1) + q) 0
+    → 64 * (q - 1) + (c % 64 + least (64 - c % 64) (λ t. ltb 0 (digit u s (c % 64 + t)))) ≡ paddedColumn ws x q c
+unfolding paddedColumn column digitAt digit
+padded-first ws x q c u s e ne eu es =
+    let n : 64 * q - c ≡ 64 - c % 64 = omega (arith, planes-room c, planes-tight c) in
+    let same : least (64 - c % 64) (λ t. ltb 0 (digit u s (c % 64 + t))) ≡ least (64 - c % 64) (λ j. ltb 0 (column ws x q (c + j))) =
+    least-cong (λ t. ltb 0 (digit u s (c % 64 + t))) (λ j. ltb 0 (column ws x q (c + j))) (64 - c % 64)
+    (λ t l.
+    let d : (c + t) / 64 ≡ q - 1 = omega (arith, planes-room c, planes-tight c) in
+    let m : (c + t) % 64 ≡ c % 64 + t = omega arith in
+    let a : x + q + (q - 1) ≡ x + (q - 1) + q = omega arith in
+    rw (d, m, a, eu, es)) in
+    let front : 64 * (q - 1) + c % 64 ≡ c = omega (arith, planes-room c, planes-tight c) in
+    rw (n, ← same) (omega (arith, front))

@@ -1,9 +1,10 @@
 // The two faults of a row: sign without unit in a real column, and a padding bit.
 ghost use mathlib.Core.Path.{_≡_};
+ghost use mathlib.Core.Bool.{true};
 ghost use Prim.Native.Nat.{_+_, _*_, _≤_};
 ghost use lib.ListN.{length};
 ghost use Rattle.buffers.specs.Buffer.{planes};
-ghost use Rattle.rows.specs.Fault.{Found, strayRow, paddedRow};
+ghost use Rattle.rows.specs.Fault.{Found, strayRow, paddedRow, strayColumn, paddedColumn};
 use super::words::load;
 
 // The sign bits without unit of the first n pairs, all laid over one another: no test in the loop, so that it becomes vector code.
@@ -48,4 +49,29 @@ pub fn padded(a: &[u64], q: usize, c: usize, x: usize) -> bool
     }
     let v = load(a, q, x + (q - 1));
     cells::fault::padded(v, n as u64)
+}
+
+// The first column with sign without unit, of a row that has one. Real columns come before padding, so no place needs a mask.
+pub fn stray_column(a: &[u64], q: usize, c: usize, x: usize) -> usize
+    requires { ⌜ (q ≡ planes c) × (c ≤ 1024) × (x + (q + q) ≤ length (now a)) × (strayRow (now a) x q c ≡ true) ⌝ }
+    ensures { λ r. ⌜ r ≡ strayColumn (now (a .entry)) x q c ⌝ }
+{
+    let mut p = 0;
+    while p < q {
+        let v = load(a, q, x + p);
+        if cells::fault::stray(v, 64) {
+            return 64 * p + cells::fault::first_stray(v) as usize;
+        }
+        p += 1;
+    }
+    c
+}
+
+// The position of the first padding bit, of a row that has one.
+pub fn padded_column(a: &[u64], q: usize, c: usize, x: usize) -> usize
+    requires { ⌜ (q ≡ planes c) × (c ≤ 1024) × (x + (q + q) ≤ length (now a)) × (paddedRow (now a) x q c ≡ true) ⌝ }
+    ensures { λ r. ⌜ r ≡ paddedColumn (now (a .entry)) x q c ⌝ }
+{
+    let v = load(a, q, x + (q - 1));
+    64 * (q - 1) + cells::fault::first_padded(v, (c % 64) as u64) as usize
 }
