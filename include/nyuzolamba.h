@@ -18,10 +18,11 @@
  * THREADS. There is no state: calls may run at once in any number of threads as long as no call writes a buffer that another one uses. A call
  * uses up to eight kilobytes of stack.
  *
- * ANSWERS. Each call returns one of the numbers below. On any number but NYUZOLAMBA_DONE it has written nothing: every buffer, the record too,
- * holds what it held. Where several numbers would fit, the first one in the order written at the call comes back. A test runs over all that
- * it can apply to before the next one starts. Of the cells, buffers are looked at in the order A, B, table, product, and in one buffer any
- * NYUZOLAMBA_SIGN comes before any NYUZOLAMBA_PADDING. Every value of every argument has an answer: counts are never cut or wrapped.
+ * ANSWERS. Each call returns a word of 64 bits: in its lowest eight bits one of the numbers below, and above them, with two of the numbers, the place
+ * of the fault. On any word but NYUZOLAMBA_DONE, which is 0, the call has written nothing: every buffer, the record too, holds what it held. Where
+ * several numbers would fit, the first one in the order written at the call comes back. A test runs over all that it can apply to before the next
+ * one starts. Of the cells, buffers are looked at in the order A, B, table, product, and in one buffer any NYUZOLAMBA_SIGN comes before any
+ * NYUZOLAMBA_PADDING. Every value of every argument has an answer: counts are never cut or wrapped.
  */
 #ifndef NYUZOLAMBA_H
 #define NYUZOLAMBA_H
@@ -34,24 +35,56 @@ extern "C" {
 #endif
 
 /* The version, counted as CHANGELOG.md says. It stands here alone: `make install` hands it to pkg-config. */
-#define NYUZOLAMBA_VERSION_MAJOR 1
+#define NYUZOLAMBA_VERSION_MAJOR 2
 #define NYUZOLAMBA_VERSION_MINOR 0
-#define NYUZOLAMBA_VERSION_PATCH 1
-#define NYUZOLAMBA_VERSION "1.0.1"
+#define NYUZOLAMBA_VERSION_PATCH 0
+#define NYUZOLAMBA_VERSION "2.0.0"
 
-/* What comes back. The numbers are those of document 01; 8 and 10 belong to requests that the C face does not have. The number for a list of row
- * steps too long to count never came, and is gone since 1.0.1: a host's branch for it can go, and nothing else changes for hosts. */
+/* What comes back: word = number + 2^8 * buffer + 2^16 * row + 2^32 * column, where the number is one of these. NYUZOLAMBA_SIGN and
+ * NYUZOLAMBA_PADDING come with a place, which makes the word another value than the number: compare NYUZOLAMBA_NUMBER(word) with them. With all other
+ * numbers buffer, row and column are 0, and the word is the number itself; `word != NYUZOLAMBA_DONE` says that a call was refused. The numbers are
+ * those of document 01: there is no 9, and 8 and 10 belong to requests that the C face does not have. */
 enum {
     NYUZOLAMBA_DONE = 0,      /* done */
     NYUZOLAMBA_SIZE = 1,      /* a row or column count is above 1,024 */
     NYUZOLAMBA_UNFIT = 2,     /* sum, difference: the sizes differ; product, open: A's columns aren't B's rows */
     NYUZOLAMBA_WIDTH = 3,     /* the width is above 8; in a turn, also 0 */
     NYUZOLAMBA_LENGTH = 4,    /* a buffer isn't of the exact length */
-    NYUZOLAMBA_SIGN = 5,      /* a real column holds sign without unit */
-    NYUZOLAMBA_PADDING = 6,   /* a bit beyond the last column is set */
+    NYUZOLAMBA_SIGN = 5,      /* a real column holds sign without unit; the word has its place */
+    NYUZOLAMBA_PADDING = 6,   /* a bit beyond the last column is set; the word has its place */
     NYUZOLAMBA_STEPS = 7,     /* the record's steps done exceed the length of the list of row steps */
     NYUZOLAMBA_FACE_LIMIT = 11 /* a row or column count is above 64, and none above 1,024 */
 };
+
+/* The buffer of a place: buffers count from 1 in the order in which a call looks at them, and 0 says that the word has no place. What table and
+ * product hold is looked at by turns alone. */
+enum {
+    NYUZOLAMBA_BUFFER_A = 1, /* also the one matrix of a check or a negation */
+    NYUZOLAMBA_BUFFER_B = 2,
+    NYUZOLAMBA_BUFFER_TABLE = 3,
+    NYUZOLAMBA_BUFFER_PRODUCT = 4
+};
+
+/*
+ * The parts of a word, each a uint64_t. The place is the first one with a fault of that number in that buffer, by row and then by column: a padding
+ * bit may stand in a row before the sign without unit that is named. Rows and columns count from 0. The column of a padding bit is its position in
+ * the row, which is the matrix's column count or more; the unit plane, the sign plane or both may have it there.
+ *
+ * Sites count from 1. A host tells one what is wrong with its plan:
+ *
+ *     uint64_t word = nyuzolamba_check(rows, columns, plan, plan_bytes);
+ *     if (NYUZOLAMBA_NUMBER(word) == NYUZOLAMBA_SIGN)
+ *         printf("plan refused: row %u, column %u of the plan has a sign without unit\n",
+ *                (unsigned)NYUZOLAMBA_ROW(word) + 1, (unsigned)NYUZOLAMBA_COLUMN(word) + 1);
+ *
+ * For the word 5 + 256 * 1 + 65536 * 9 + 4294967296 * 61 this prints
+ *
+ *     plan refused: row 10, column 62 of the plan has a sign without unit
+ */
+#define NYUZOLAMBA_NUMBER(word) ((uint64_t)(word) & 255)
+#define NYUZOLAMBA_BUFFER(word) (((uint64_t)(word) >> 8) & 255)
+#define NYUZOLAMBA_ROW(word) (((uint64_t)(word) >> 16) & 65535)
+#define NYUZOLAMBA_COLUMN(word) ((uint64_t)(word) >> 32)
 
 /* Sizes. */
 enum {

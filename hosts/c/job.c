@@ -106,6 +106,30 @@ void site_request(uint64_t seed, uint64_t site, struct digits *a, struct digits 
     own_random(b, size[1], size[2], scramble(seed, 1005, site));
 }
 
+/* Ends the program with the number of a refusal and, where it has one, the place, whose row and column are counted from 1 as sites count them.
+ * `first` is the buffer that the call looks at first. */
+static void refused(const struct job *job, const char *what, unsigned first, uint64_t word)
+{
+    static const char *const name[BUFFERS] = {[A] = "A", [B] = "B", [TABLE] = "the table", [PRODUCT] = "the product"};
+    unsigned long long site = job->site, number = NYUZOLAMBA_NUMBER(word);
+    unsigned long long row = NYUZOLAMBA_ROW(word) + 1, column = NYUZOLAMBA_COLUMN(word) + 1;
+    uint64_t buffer = first - 1 + NYUZOLAMBA_BUFFER(word);
+    const char *fault = number == NYUZOLAMBA_SIGN ? "has a sign without unit" : "is beyond the last column, and not empty";
+    if (NYUZOLAMBA_BUFFER(word) == 0)
+        fail("site %llu: %s was refused with number %llu", site, what, number);
+    if (buffer >= BUFFERS)
+        fail("site %llu: %s was refused with number %llu in a buffer that it does not have", site, what, number);
+    fail("site %llu: %s was refused with number %llu: row %llu, column %llu of %s %s", site, what, number, row, column, name[buffer], fault);
+}
+
+/* Ends the program unless what the site sent as A or as B is a legal matrix. */
+static void check(const struct job *job, unsigned which, const struct digits *sent)
+{
+    uint64_t word = nyuzolamba_check(sent->rows, sent->columns, job->buffer[which].start, job->buffer[which].bytes);
+    if (word != NYUZOLAMBA_DONE)
+        refused(job, "a matrix", which, word);
+}
+
 /* The width that a request means. */
 static unsigned meant(unsigned width)
 {
@@ -118,7 +142,7 @@ void job_open(struct job *job, uint64_t seed, uint64_t site)
     struct buffer *at = job->buffer;
     uint8_t copy[2][MOST * 16];
     unsigned width;
-    uint64_t number;
+    uint64_t word;
     site_request(seed, site, &a, &b, &width);
     memset(job, 0, sizeof *job);
     job->site = site;
@@ -131,14 +155,12 @@ void job_open(struct job *job, uint64_t seed, uint64_t site)
     own_pack(&b, at[B].start);
     memcpy(copy[0], at[A].start, at[A].bytes);
     memcpy(copy[1], at[B].start, at[B].bytes);
-    number = nyuzolamba_check(a.rows, a.columns, at[A].start, at[A].bytes);
-    if (number == NYUZOLAMBA_DONE)
-        number = nyuzolamba_check(b.rows, b.columns, at[B].start, at[B].bytes);
-    if (number == NYUZOLAMBA_DONE)
-        number = nyuzolamba_open(a.rows, a.columns, b.rows, b.columns, width, at[RECORD].start, at[RECORD].bytes, at[A].start, at[A].bytes,
-                                 at[B].start, at[B].bytes, at[TABLE].start, at[TABLE].bytes, at[PRODUCT].start, at[PRODUCT].bytes);
-    if (number != NYUZOLAMBA_DONE)
-        fail("site %llu: not opened, number %llu", (unsigned long long)site, (unsigned long long)number);
+    check(job, A, &a);
+    check(job, B, &b);
+    word = nyuzolamba_open(a.rows, a.columns, b.rows, b.columns, width, at[RECORD].start, at[RECORD].bytes, at[A].start, at[A].bytes,
+                           at[B].start, at[B].bytes, at[TABLE].start, at[TABLE].bytes, at[PRODUCT].start, at[PRODUCT].bytes);
+    if (word != NYUZOLAMBA_DONE)
+        refused(job, "an opening", A, word);
     look(job, copy[0], copy[1]);
 }
 
@@ -146,13 +168,13 @@ void job_turn(struct job *job, uint32_t budget)
 {
     struct buffer *at = job->buffer;
     uint8_t copy[2][MOST * 16];
-    uint64_t before = job_steps(job), number;
+    uint64_t before = job_steps(job), word;
     memcpy(copy[0], at[A].start, at[A].bytes);
     memcpy(copy[1], at[B].start, at[B].bytes);
-    number = nyuzolamba_turn(at[RECORD].start, at[RECORD].bytes, at[A].start, at[A].bytes, at[B].start, at[B].bytes, at[TABLE].start,
-                             at[TABLE].bytes, at[PRODUCT].start, at[PRODUCT].bytes, budget);
-    if (number != NYUZOLAMBA_DONE)
-        fail("site %llu: a turn was refused with %llu", (unsigned long long)job->site, (unsigned long long)number);
+    word = nyuzolamba_turn(at[RECORD].start, at[RECORD].bytes, at[A].start, at[A].bytes, at[B].start, at[B].bytes, at[TABLE].start,
+                           at[TABLE].bytes, at[PRODUCT].start, at[PRODUCT].bytes, budget);
+    if (word != NYUZOLAMBA_DONE)
+        refused(job, "a turn", A, word);
     look(job, copy[0], copy[1]);
     job->turns++;
     job->sold = nyuzolamba_word(at[RECORD].start, NYUZOLAMBA_STEPS_MADE);

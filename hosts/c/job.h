@@ -22,7 +22,7 @@ struct job {
 /* What a site sends, by its number: sizes, width (0 is the default) and matrices. */
 void site_request(uint64_t seed, uint64_t site, struct digits *a, struct digits *b, unsigned *width);
 
-/* Opens the job of a site's request. */
+/* Opens the job of a site's request. Ends the program if the library refuses, and says which place is wrong where the refusal has one. */
 void job_open(struct job *job, uint64_t seed, uint64_t site);
 
 /* Gives it a turn. Ends the program if the library refuses or touches what it may not. */

@@ -1,7 +1,10 @@
-// Requests, one call each: their answer's number comes back, and of a turn the record's steps done.
+// Requests, one call each: their answer's word comes back, and of a turn the record's steps done.
 use matrix::job::Job;
+use matrix::opening::Opened;
+use matrix::turn::Turned;
 use requests::Size;
-use requests::number;
+use requests::reason_word;
+use requests::word;
 
 #[no_mangle]
 pub extern "C" fn bench_check(rows: u64, columns: u64, a: &[u64]) -> u64 {
@@ -9,7 +12,7 @@ pub extern "C" fn bench_check(rows: u64, columns: u64, a: &[u64]) -> u64 {
         rows: rows,
         columns: columns,
     };
-    number(matrix::check::check(s, a))
+    word(matrix::check::check(s, a))
 }
 
 #[no_mangle]
@@ -18,7 +21,7 @@ pub extern "C" fn bench_sum(rows: u64, columns: u64, a: &[u64], b: &[u64], out: 
         rows: rows,
         columns: columns,
     };
-    number(matrix::sum::sum(s, s, a, b, out))
+    word(matrix::sum::sum(s, s, a, b, out))
 }
 
 #[no_mangle]
@@ -33,7 +36,7 @@ pub extern "C" fn bench_difference(
         rows: rows,
         columns: columns,
     };
-    number(matrix::difference::difference(s, s, a, b, out))
+    word(matrix::difference::difference(s, s, a, b, out))
 }
 
 #[no_mangle]
@@ -42,7 +45,7 @@ pub extern "C" fn bench_negation(rows: u64, columns: u64, a: &[u64], out: &mut [
         rows: rows,
         columns: columns,
     };
-    number(matrix::negation::negation(s, a, out))
+    word(matrix::negation::negation(s, a, out))
 }
 
 #[no_mangle]
@@ -51,7 +54,7 @@ pub extern "C" fn bench_scaling(rows: u64, columns: u64, d: u8, a: &[u64], out: 
         rows: rows,
         columns: columns,
     };
-    number(matrix::scaling::scaling(s, d, a, out))
+    word(matrix::scaling::scaling(s, d, a, out))
 }
 
 #[no_mangle]
@@ -60,7 +63,7 @@ pub extern "C" fn bench_transpose(rows: u64, columns: u64, a: &[u64], out: &mut 
         rows: rows,
         columns: columns,
     };
-    number(matrix::transpose::transpose(s, a, out))
+    word(matrix::transpose::transpose(s, a, out))
 }
 
 #[no_mangle]
@@ -69,7 +72,7 @@ pub extern "C" fn bench_pack(rows: u64, columns: u64, cells: &[u8], out: &mut [u
         rows: rows,
         columns: columns,
     };
-    number(matrix::pack::pack(s, cells, out))
+    word(matrix::pack::pack(s, cells, out))
 }
 
 #[no_mangle]
@@ -78,7 +81,7 @@ pub extern "C" fn bench_unpack(rows: u64, columns: u64, a: &[u64], out: &mut [u8
         rows: rows,
         columns: columns,
     };
-    number(matrix::unpack::unpack(s, a, out))
+    word(matrix::unpack::unpack(s, a, out))
 }
 
 #[no_mangle]
@@ -100,7 +103,7 @@ pub extern "C" fn bench_product(
         rows: l,
         columns: n,
     };
-    number(matrix::product::product(x, y, width, a, b, table, product))
+    word(matrix::product::product(x, y, width, a, b, table, product))
 }
 
 #[no_mangle]
@@ -123,8 +126,10 @@ pub extern "C" fn bench_opening(
         columns: n,
     };
     let opened = matrix::opening::opening(x, y, width, a, b, table, product);
-    let answer = opened.answer;
-    number(answer)
+    match opened {
+        Opened::Done(_) => 0,
+        Opened::Refused(why) => reason_word(why),
+    }
 }
 
 // A refusal gives a number that no list has.
@@ -149,10 +154,12 @@ pub extern "C" fn bench_turn(
         done: done,
     };
     let turned = matrix::turn::turn(job, a, b, table, product, budget);
-    let answer = turned.answer;
-    if number(answer) != 0 {
-        return 18446744073709551615;
+    match turned {
+        Turned::Done {
+            job: next,
+            made: _,
+            finished: _,
+        } => next.done,
+        Turned::Refused(_) => 18446744073709551615,
     }
-    let next = turned.job;
-    next.done
 }

@@ -7,6 +7,7 @@ use Prim.Native.Nat.{ℕ, zero, suc, _*_}
 use lib.ListN.{length}
 use Rattle.cells.proofs.AnyLaws.{or-left, or-right}
 use Rattle.requests.specs.declared.Size.{Size}
+use Rattle.requests.specs.declared.Buffer.the-variants.{First, Second}
 use Rattle.requests.specs.Answers.{Tests, first, left, answered}
 use Rattle.requests.specs.Sizes.{over, unfit}
 use Rattle.requests.specs.Faults.{faults}
@@ -84,8 +85,8 @@ module _ (s : Size) (a : List ℕ) (z : first (checkSizes s (length a)) ≡ 0) w
   pub check-same : checkMeans s (wordsIn a) ≡ checkFace s a
   unfolding checkMeans checkTests checkFace checkFaceTests checkSizes
   check-same =
-      past-none ((over s, 1) ∷ (unfit s (length (wordsIn a)), 4) ∷ []) (faults s (wordsIn a)) (check-none .0, (fits-in s a (check-none .1 .1 .0), tt))
-      ∙ sym (past-none (checkSizes s (length a)) (faults s (wordsIn a)) check-none)
+      past-none ((over s, 1) ∷ (unfit s (length (wordsIn a)), 4) ∷ []) (faults First s (wordsIn a)) (check-none .0, (fits-in s a (check-none .1 .1 .0), tt))
+      ∙ sym (past-none (checkSizes s (length a)) (faults First s (wordsIn a)) check-none)
 
 -- ---- negation
 
@@ -113,8 +114,8 @@ module _ (s : Size) (a : List ℕ) (n : ℕ) (z : first (negationSizes s (length
   pub negation-same : (k : ℕ) → n ≡ 8 * k → first (singleTests s s (wordsIn a) k) ≡ first (negationFaceTests s a n)
   unfolding singleTests negationFaceTests negationSizes
   negation-same k e =
-      past-none ((over s, 1) ∷ (unfit s (length (wordsIn a)) || unfit s k, 4) ∷ []) (faults s (wordsIn a)) (negation-none .0, (rw (fits-in s a negation-a) (fits-words s n k negation-out e), tt))
-      ∙ sym (past-none (negationSizes s (length a) n) (faults s (wordsIn a)) negation-none)
+      past-none ((over s, 1) ∷ (unfit s (length (wordsIn a)) || unfit s k, 4) ∷ []) (faults First s (wordsIn a)) (negation-none .0, (rw (fits-in s a negation-a) (fits-words s n k negation-out e), tt))
+      ∙ sym (past-none (negationSizes s (length a) n) (faults First s (wordsIn a)) negation-none)
 
 -- ---- sum and difference
 
@@ -155,9 +156,9 @@ module _ (x y : Size) (a b : List ℕ) (n : ℕ) (z : first (pairSizes x y (leng
   pub pair-same : (k : ℕ) → n ≡ 8 * k → first (pairTests x y (wordsIn a) (wordsIn b) k) ≡ first (pairFaceTests x y a b n)
   unfolding pairTests unfits pairFaceTests pairSizes
   pair-same k e =
-      past-none ((over x || over y, 1) ∷ (unequal x y, 2) ∷ (unfit x (length (wordsIn a)) || (unfit y (length (wordsIn b)) || unfit x k), 4) ∷ []) (faults x (wordsIn a) ++ faults y (wordsIn b))
+      past-none ((over x || over y, 1) ∷ (unequal x y, 2) ∷ (unfit x (length (wordsIn a)) || (unfit y (length (wordsIn b)) || unfit x k), 4) ∷ []) (faults First x (wordsIn a) ++ faults Second y (wordsIn b))
       (pair-none .0, (pair-none .1 .1 .0, (rw (fits-in x a pair-a, fits-in y b pair-b) (fits-words x n k pair-out e), tt)))
-      ∙ sym (past-none (pairSizes x y (length a) (length b) n) (faults x (wordsIn a) ++ faults y (wordsIn b)) pair-none)
+      ∙ sym (past-none (pairSizes x y (length a) (length b) n) (faults First x (wordsIn a) ++ faults Second y (wordsIn b)) pair-none)
 
 pub negation-carried : (s : Size) (a out u w w′ : List ℕ) (f n : ℕ) → first (negationSizes s (length a) (length out)) ≡ 0 → length out ≡ 8 * length w → u ≡ wordsIn a → f ≡ n
     → (n, w′) ≡ negationMeans s u w → (f, left f out (bytesOf w′)) ≡ negationFace s a out

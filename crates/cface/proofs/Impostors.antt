@@ -2,18 +2,18 @@
 -- computed from the calls' statements, in bytes. Assumes nothing.
 use mathlib.Core.Path.{_≡_, refl, ap}
 use mathlib.Core.List.{List, [], _∷_}
-use Prim.Native.Nat.{ℕ}
+use Prim.Native.Nat.{ℕ, _+_, _^_}
 use native.Mathlib.Omega.{arith}
 use lib.Count.{trailingZeros}
 use lib.ListN.{getD}
-use Rattle.cells.specs.Any.{any}
+use Rattle.cells.specs.Any.{any, least}
 use Rattle.cells.specs.Bit.{bit, wordOf}
 use Rattle.cells.specs.Counts.{sum, is, bitsOf}
 use Rattle.cells.specs.Digit.{add3, sub3, neg3, unitOf, signOf}
 use Rattle.buffers.specs.Buffer.{planes, wide, words, bitAt, unit, sign, cell, tab, joined, plane, encode}
-use Rattle.buffers.specs.Fault.{stray, padded}
+use Rattle.buffers.specs.Fault.{stray, padded, strayAt, paddedAt}
 use Rattle.requests.specs.declared.Size.{Size}
-use Rattle.requests.specs.Answers.{first, left, answered}
+use Rattle.requests.specs.Answers.{placed, first, left, answered}
 use Rattle.requests.specs.Sizes.{over}
 use Rattle.requests.specs.Faults.{faults}
 use Rattle.requests.specs.Pair.{unequal}
@@ -80,7 +80,7 @@ abbrev Left : Type 0
 Left = List ℕ × (List ℕ × List ℕ)
 
 pub record Sums : Type 0 where
-  pub checked : (checkFace one one1 ≡ 0) × (checkFace one stray1 ≡ 5)
+  pub checked : (checkFace one one1 ≡ 0) × (checkFace one stray1 ≡ 5 + 2 ^ 8)
   pub added : (sumFace one one one1 one1 zero1 ≡ (0, two1)) × (sumFace one one one1 two1 zero1 ≡ (0, zero1))
   pub subtracted : (differenceFace one one zero1 one1 zero1 ≡ (0, two1)) × (differenceFace one one one1 one1 zero1 ≡ (0, zero1))
   pub negated : (negationFace one one1 zero1 ≡ (0, two1)) × (negationFace one zero1 zero1 ≡ (0, zero1))
@@ -89,7 +89,7 @@ pub record Sums : Type 0 where
   pub moved : (turnFace (job 1 1 0 0) two1 one1 newTable zero1 2 ≡ (0, (job 1 1 2 1, (madeTable, two1)))) × (turnFace (job 1 1 0 0) zero1 one1 newTable zero1 2 ≡ (0, (job 1 1 1 1, (madeTable, zero1))))
 
 pub sums : Sums
-unfolding checkFace checkFaceTests checkSizes sumFace sumOf differenceFace differenceOf pairFaceTests pairSizes negationFace negationFaceTests negationSizes negationOf productFace productFaceTests productSizes openFace openFaceTests openSizes turnFace turnFaceTests turnSizes unfitRecord jobIn recordOf unfitBytes misfitBytes above wordsIn bytesOf valueOf byteOf turnedOf turn made meant due found schoolbook sum total steps blocks blockWidth blockSteps rowSteps tableSteps each many unless0 bitsOf lowestBit cleared put apply run opening answered first left over unequal faults stray padded any unit sign cell bitAt bit planes wide words encode joined plane tab wordOf unitOf signOf add3 sub3 neg3 is trailingZeros
+unfolding checkFace checkFaceTests checkSizes sumFace sumOf differenceFace differenceOf pairFaceTests pairSizes negationFace negationFaceTests negationSizes negationOf productFace productFaceTests productSizes openFace openFaceTests openSizes turnFace turnFaceTests turnSizes unfitRecord jobIn recordOf unfitBytes misfitBytes above wordsIn bytesOf valueOf byteOf turnedOf turn made meant due found schoolbook sum total steps blocks blockWidth blockSteps rowSteps tableSteps each many unless0 bitsOf lowestBit cleared put apply run opening answered first left over unequal faults placed stray padded strayAt paddedAt least any unit sign cell bitAt bit planes wide words encode joined plane tab wordOf unitOf signOf add3 sub3 neg3 is trailingZeros
 sums = record {
   checked = (refl, refl);
   added = (refl, refl);
@@ -108,7 +108,7 @@ two-zero : two1 ≡ zero1 → ⊥
 two-zero e = let z : _≡_ {A = ℕ} 1 0 = ap (λ (l : List ℕ). getD l 0 0) e in omega arith
 
 pub face-check-shown-out : AnswerShownOut {X = Size} {I = List ℕ} itself checkFace
-face-check-shown-out = answer-shown-out itself checkFace one one1 stray1 5 (sums .checked .0) (sums .checked .1) (λ e. omega arith)
+face-check-shown-out = answer-shown-out itself checkFace one one1 stray1 (5 + 2 ^ 8) (sums .checked .0) (sums .checked .1) (λ e. omega arith)
 
 pub face-sum-shown-out : ShownOut {X = Size × Size × List ℕ × List ℕ} {I = List ℕ} {S = List ℕ} itself (λ x b. sumFace (x .0) (x .1) (x .2) b (x .3))
 face-sum-shown-out = shown-out itself _ (one, one, one1, zero1) one1 two1 two1 zero1 (sums .added .0) (sums .added .1) two-zero

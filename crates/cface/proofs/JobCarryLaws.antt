@@ -10,20 +10,27 @@ use borrow.Author.Tests.{ltb-false, ne-eqb, eqb-true, not-false}
 use Rattle.cells.proofs.AnyLaws.{or-left, or-right}
 use Rattle.buffers.specs.Buffer.{words}
 use Rattle.requests.specs.declared.Size.{Size}
+use Rattle.requests.specs.declared.Buffer.the-variants.{First, Second}
 use Rattle.requests.specs.declared.Answer.{Answer}
-use Rattle.requests.specs.Answers.{number, first, left}
+use Rattle.requests.specs.declared.Reason.{Reason}
+use Rattle.requests.specs.Answers.{reasonWord, word, first, left}
 use Rattle.requests.specs.Sizes.{over, unfit}
 use Rattle.requests.specs.Faults.{pairFaults}
 use Rattle.requests.proofs.SizeLaws.{not-unfit}
 use Rattle.requests.specs.Exact.{None}
 use Rattle.requests.proofs.AnswerLaws.{first-none, refused}
+use Rattle.requests.proofs.WordLaws.{some-reason}
 use Rattle.walk.proofs.CountLaws.{pow-small}
 use Rattle.matrix.specs.declared.job.Job.{Job}
+use Rattle.matrix.specs.declared.opening.Opened.{Opened}
+use Rattle.matrix.specs.declared.opening.Opened.the-variants as an-opening
+use Rattle.matrix.specs.declared.turn.Turned.{Turned}
+use Rattle.matrix.specs.declared.turn.Turned.the-variants as a-turn
 use Rattle.matrix.specs.Job.{meant, tableSize, productSize}
 use Rattle.matrix.specs.Misfit.{misfit}
-use Rattle.matrix.specs.Opening.{sizeTests, openingTests, openingMeans}
+use Rattle.matrix.specs.Opening.{sizeTests, openingTests, noJob, opened, openingMeans}
 use Rattle.matrix.specs.Product.{productMeans}
-use Rattle.matrix.specs.Turn.{sizeA, sizeB, foundTests, turnTests, turnMeans}
+use Rattle.matrix.specs.Turn.{sizeA, sizeB, foundTests, turnTests, turned, turnMeans}
 use Rattle.matrix.specs.Record.{jobIn, recordOf}
 use Rattle.matrix.proofs.JobLaws.{meant-le}
 use Rattle.matrix.proofs.Demand3.{product-end}
@@ -34,14 +41,14 @@ use Rattle.cface.specs.Record.{unfitRecord}
 use Rattle.cface.specs.Open.{openSizes, openFaceTests, openBytes, openFace}
 use Rattle.cface.specs.Turn.{turnSizes, turnWords, turnBytes, turnFaceTests, turnFace}
 use Rattle.cface.proofs.LimitLaws.{Room, room, fit-bytes, above-rows, above-columns, fits-words, fits-in, fits-a, fits-b, fits-out, fit-a, fit-b, fit-table, fit-product}
-use Rattle.cface.proofs.CarryLaws.{past-none, carried}
+use Rattle.cface.proofs.CarryLaws.{past-none, left-old, left-new, carried}
 
 -- the library's tests of an opening, where no size, width or length is wrong
 module _ (x y : Size) (w : ℕ) (a b : List ℕ) (t p : ℕ) (small : (over x || over y) ≡ false) (same : not (eqb (x .columns) (y .rows)) ≡ false) (narrow : ltb 8 w ≡ false) (fa : unfitBytes x (length a) ≡ false) (fb : unfitBytes y (length b) ≡ false) (ft : unfit (tableSize y (meant w)) t ≡ false) (fp : unfit (productSize x y) p ≡ false) where
-  opening-left : first (openingTests x y w (wordsIn a) (wordsIn b) t p) ≡ first (pairFaults x y (wordsIn a) (wordsIn b))
+  opening-left : first (openingTests x y w (wordsIn a) (wordsIn b) t p) ≡ first (pairFaults First Second x y (wordsIn a) (wordsIn b))
   unfolding openingTests misfit
   opening-left =
-      past-none (sizeTests x y w (wordsIn a) (wordsIn b) t p) (pairFaults x y (wordsIn a) (wordsIn b)) (small, (same, (narrow, (rw (fits-in x a fa, fits-in y b fb, ft) fp, tt))))
+      past-none (sizeTests x y w (wordsIn a) (wordsIn b) t p) (pairFaults First Second x y (wordsIn a) (wordsIn b)) (small, (same, (narrow, (rw (fits-in x a fa, fits-in y b fb, ft) fp, tt))))
 
 -- ---- product
 
@@ -86,14 +93,14 @@ module _ (x y : Size) (a b : List ℕ) (n : ℕ) (z : first (productSizes x y (l
   unfolding productFaceTests productSizes meant
   product-same t k et e =
       opening-left x y 0 a b t k (product-none .0) (product-none .1 .1 .0) refl bytes-a bytes-b (not-unfit (tableSize y (meant 0)) t et) (fits-words (productSize x y) n k bytes-out e)
-      ∙ sym (past-none (productSizes x y (length a) (length b) n) (pairFaults x y (wordsIn a) (wordsIn b)) product-none)
+      ∙ sym (past-none (productSizes x y (length a) (length b) n) (pairFaults First Second x y (wordsIn a) (wordsIn b)) product-none)
 
 pub product-carried : (x y : Size) (a b out u v t w t′ w′ : List ℕ) (f : ℕ) (r : Answer) → first (productSizes x y (length a) (length b) (length out)) ≡ 0 → length t ≡ words 16 (y .columns) → length out ≡ 8 * length w
-    → u ≡ wordsIn a → v ≡ wordsIn b → f ≡ number r → (number r, (t′, w′)) ≡ productMeans x y 0 u v t w → (f, left f out (bytesOf w′)) ≡ productFace x y a b out
+    → u ≡ wordsIn a → v ≡ wordsIn b → f ≡ word r → (word r, (t′, w′)) ≡ productMeans x y 0 u v t w → (f, left f out (bytesOf w′)) ≡ productFace x y a b out
 unfolding productMeans productFace
 product-carried x y a b out u v t w t′ w′ f r z table room eu ev e says =
-    let on : _≡_ {A = ℕ × (List ℕ × List ℕ)} (number r, (t′, w′)) (productMeans x y 0 (wordsIn a) (wordsIn b) t w) = rw (eu, ev) at says in
-    carried {S = List ℕ × List ℕ} (λ o. bytesOf (o .1)) (openingTests x y 0 (wordsIn a) (wordsIn b) (length t) (length w)) _ (t, w) _ (t′, w′) out _ f (number r) e on
+    let on : _≡_ {A = ℕ × (List ℕ × List ℕ)} (word r, (t′, w′)) (productMeans x y 0 (wordsIn a) (wordsIn b) t w) = rw (eu, ev) at says in
+    carried {S = List ℕ × List ℕ} (λ o. bytesOf (o .1)) (openingTests x y 0 (wordsIn a) (wordsIn b) (length t) (length w)) _ (t, w) _ (t′, w′) out _ f (word r) e on
     (product-same x y a b (length out) z (length t) (length w) table room) (λ ok _. ap bytesOf (product-end x y 0 (wordsIn a) (wordsIn b) t w r t′ w′ on ok))
 
 -- ---- opening
@@ -139,7 +146,7 @@ module _ (x y : Size) (width k : ℕ) (a b : List ℕ) (t p : ℕ) (z : first (o
   unfolding openFaceTests openSizes
   open-same i j ei ej =
       opening-left x y width a b i j (open-none .1 .0) (open-none .1 .1 .1 .0) (open-none .1 .1 .1 .1 .0) (fit-a x y (meant width) (length a) (length b) t p lengths) (fit-b x y (meant width) (length a) (length b) t p lengths) (fits-words (tableSize y (meant width)) t i (fit-table x y (meant width) (length a) (length b) t p lengths) ei) (fits-words (productSize x y) p j (fit-product x y (meant width) (length a) (length b) t p lengths) ej)
-      ∙ sym (past-none (openSizes x y width k (length a) (length b) t p) (pairFaults x y (wordsIn a) (wordsIn b)) open-none)
+      ∙ sym (past-none (openSizes x y width k (length a) (length b) t p) (pairFaults First Second x y (wordsIn a) (wordsIn b)) open-none)
 
 -- what is so where no size, width or length of an opening is wrong
 pub record Fits (x y : Size) (width k : ℕ) (a b : List ℕ) (t p : ℕ) : Type 0 where
@@ -169,7 +176,7 @@ open-fits x y width k a b t p z =
       product = open-room-product x y width k a b t p z .whole;
     }
 
-pub open-carried : (x y : Size) (width : ℕ) (job a b table product u v t p t′ p′ : List ℕ) (new : Job) (f n : ℕ)
+open-carried : (x y : Size) (width : ℕ) (job a b table product u v t p t′ p′ : List ℕ) (new : Job) (f n : ℕ)
     → first (openSizes x y width (length job) (length a) (length b) (length table) (length product)) ≡ 0 → length table ≡ 8 * length t → length product ≡ 8 * length p → u ≡ wordsIn a → v ≡ wordsIn b → f ≡ n
     → (n, (new, (t′, p′))) ≡ openingMeans x y width u v t p
     → _≡_ {A = ℕ × (List ℕ × (List ℕ × List ℕ))} (f, left f (job, (table, product)) (bytesOf (recordOf new 0 false), (bytesOf t′, bytesOf p′))) (openFace x y width job a b table product)
@@ -177,6 +184,17 @@ unfolding openingMeans openFace
 open-carried x y width job a b table product u v t p t′ p′ new f n z et ep eu ev e says =
     carried {S = Job × (List ℕ × List ℕ)} {R = List ℕ × (List ℕ × List ℕ)} openBytes (openingTests x y width (wordsIn a) (wordsIn b) (length t) (length p)) _ _ _ (new, (t′, p′)) (job, (table, product)) _ f n e (rw (eu, ev) at says)
     (open-same x y width (length job) a b (length table) (length product) z (length t) (length p) et ep) (λ _ m. ap openBytes m)
+
+module _ (x y : Size) (width : ℕ) (job a b table product u v t p t′ p′ : List ℕ) (r : Opened) (z : first (openSizes x y width (length job) (length a) (length b) (length table) (length product)) ≡ 0) (et : length table ≡ 8 * length t) (ep : length product ≡ 8 * length p) (eu : u ≡ wordsIn a) (ev : v ≡ wordsIn b) (says : opened r t′ p′ ≡ openingMeans x y width u v t p) where
+  pub open-done : (new : Job) → r ≡ an-opening.Done new → _≡_ {A = ℕ × (List ℕ × (List ℕ × List ℕ))} (0, (bytesOf (recordOf new 0 false), (bytesOf t′, bytesOf p′))) (openFace x y width job a b table product)
+  open-done new is =
+      left-new 0 (job, (table, product)) _ _ refl refl
+      ∙ open-carried x y width job a b table product u v t p t′ p′ new 0 0 z et ep eu ev refl (ap (λ (o : Opened). opened o t′ p′) (sym is) ∙ says)
+
+  pub open-refused : (why : Reason) (f : ℕ) → r ≡ an-opening.Refused why → f ≡ reasonWord why → _≡_ {A = ℕ × (List ℕ × (List ℕ × List ℕ))} (f, (job, (table, product))) (openFace x y width job a b table product)
+  open-refused why f is e =
+      left-old f (job, (table, product)) _ (λ n. some-reason why (sym e ∙ n))
+      ∙ open-carried x y width job a b table product u v t p t′ p′ noJob f (reasonWord why) z et ep eu ev e (ap (λ (o : Opened). opened o t′ p′) (sym is) ∙ says)
 
 -- ---- turn
 
@@ -248,6 +266,18 @@ turn-carried found job a b table product u v t p t′ p′ budget next made ende
     let y : first (turnSizes (jobIn (wordsIn job)) (length job) (length a) (length b) (length table) (length product)) ≡ 0 = rw ej at z in
     carried {S = Job × (ℕ × (Bool × (List ℕ × List ℕ)))} {R = List ℕ × (List ℕ × List ℕ)} turnBytes (turnTests (jobIn (wordsIn job)) (wordsIn a) (wordsIn b) (wordsIn table) (wordsIn product)) _ _ _ (next, (made, (ended, (t′, p′)))) (job, (table, product)) _ f n e (rw (ej, eu, ev, et, ep) at says)
     (turn-same (jobIn (wordsIn job)) (length job) a b table product y ∙ sym (past-none (turnSizes (jobIn (wordsIn job)) (length job) (length a) (length b) (length table) (length product)) _ (turn-none (jobIn (wordsIn job)) (length job) a b (length table) (length product) y))) (λ _ m. ap turnBytes m)
+
+module _ (found : Job) (job a b table product u v t p t′ p′ : List ℕ) (budget : ℕ) (r : Turned) (ej : found ≡ jobIn (wordsIn job)) (z : first (turnSizes found (length job) (length a) (length b) (length table) (length product)) ≡ 0) (eu : u ≡ wordsIn a) (ev : v ≡ wordsIn b) (et : t ≡ wordsIn table) (ep : p ≡ wordsIn product) (says : turned r t′ p′ ≡ turnMeans found u v t p budget) where
+  pub turn-done : (next : Job) (made : ℕ) (ended : Bool) → r ≡ a-turn.Done next made ended
+      → _≡_ {A = ℕ × (List ℕ × (List ℕ × List ℕ))} (0, (bytesOf (recordOf next made ended), (bytesOf t′, bytesOf p′))) (turnFace job a b table product budget)
+  turn-done next made ended is =
+      left-new 0 (job, (table, product)) _ _ refl refl
+      ∙ turn-carried found job a b table product u v t p t′ p′ budget next made ended 0 0 ej z eu ev et ep refl (ap (λ (o : Turned). turned o t′ p′) (sym is) ∙ says)
+
+  pub turn-refused : (why : Reason) (f : ℕ) → r ≡ a-turn.Refused why → f ≡ reasonWord why → _≡_ {A = ℕ × (List ℕ × (List ℕ × List ℕ))} (f, (job, (table, product))) (turnFace job a b table product budget)
+  turn-refused why f is e =
+      left-old f (job, (table, product)) _ (λ n. some-reason why (sym e ∙ n))
+      ∙ turn-carried found job a b table product u v t p t′ p′ budget noJob 0 false f (reasonWord why) ej z eu ev et ep e (ap (λ (o : Turned). turned o t′ p′) (sym is) ∙ says)
 
 -- a record of another length
 pub turn-length : (job a b table product : List ℕ) (budget f : ℕ) → f ≡ 4 → (length job ≡ 56 → ⊥) → _≡_ {A = ℕ × (List ℕ × (List ℕ × List ℕ))} (f, (job, (table, product))) (turnFace job a b table product budget)

@@ -3,7 +3,7 @@ use mathlib.Core.Path.{_≡_, sym, _∙_}
 use mathlib.Core.List.{List}
 use Prim.Native.Nat.{ℕ}
 use Rattle.requests.specs.declared.Size.{Size}
-use Rattle.requests.proofs.AnswerLaws.{numbers-coincide}
+use Rattle.requests.proofs.WordLaws.{words-coincide}
 use Rattle.cface.specs.Check.{checkFace}
 use Rattle.cface.specs.Sum.{sumFace}
 use Rattle.cface.specs.Difference.{differenceFace}
@@ -16,21 +16,21 @@ pub check-one : (s : Size) (a : List ℕ) (r r′ : ℕ) → r ≡ checkFace s a
 check-one s a r r′ p q = p ∙ sym q
 
 pub sum-one : (x y : Size) (a b out : List ℕ) (r r′ : ℕ) (o o′ : List ℕ) → (r, o) ≡ sumFace x y a b out → (r′, o′) ≡ sumFace x y a b out → (r ≡ r′) × (o ≡ o′)
-sum-one x y a b out r r′ o o′ p q = numbers-coincide (sumFace x y a b out) r r′ o o′ p q
+sum-one x y a b out r r′ o o′ p q = words-coincide (sumFace x y a b out) r r′ o o′ p q
 
 pub difference-one : (x y : Size) (a b out : List ℕ) (r r′ : ℕ) (o o′ : List ℕ) → (r, o) ≡ differenceFace x y a b out → (r′, o′) ≡ differenceFace x y a b out → (r ≡ r′) × (o ≡ o′)
-difference-one x y a b out r r′ o o′ p q = numbers-coincide (differenceFace x y a b out) r r′ o o′ p q
+difference-one x y a b out r r′ o o′ p q = words-coincide (differenceFace x y a b out) r r′ o o′ p q
 
 pub negation-one : (s : Size) (a out : List ℕ) (r r′ : ℕ) (o o′ : List ℕ) → (r, o) ≡ negationFace s a out → (r′, o′) ≡ negationFace s a out → (r ≡ r′) × (o ≡ o′)
-negation-one s a out r r′ o o′ p q = numbers-coincide (negationFace s a out) r r′ o o′ p q
+negation-one s a out r r′ o o′ p q = words-coincide (negationFace s a out) r r′ o o′ p q
 
 pub product-one : (x y : Size) (a b out : List ℕ) (r r′ : ℕ) (o o′ : List ℕ) → (r, o) ≡ productFace x y a b out → (r′, o′) ≡ productFace x y a b out → (r ≡ r′) × (o ≡ o′)
-product-one x y a b out r r′ o o′ p q = numbers-coincide (productFace x y a b out) r r′ o o′ p q
+product-one x y a b out r r′ o o′ p q = words-coincide (productFace x y a b out) r r′ o o′ p q
 
 -- ---- jobs: record, table and product
 
 pub open-one : (x y : Size) (w : ℕ) (job a b t p : List ℕ) (r r′ : ℕ) (o o′ : List ℕ × (List ℕ × List ℕ)) → (r, o) ≡ openFace x y w job a b t p → (r′, o′) ≡ openFace x y w job a b t p → (r ≡ r′) × (o ≡ o′)
-open-one x y w job a b t p r r′ o o′ u v = numbers-coincide (openFace x y w job a b t p) r r′ o o′ u v
+open-one x y w job a b t p r r′ o o′ u v = words-coincide (openFace x y w job a b t p) r r′ o o′ u v
 
 pub turn-one : (job a b t p : List ℕ) (budget : ℕ) (r r′ : ℕ) (o o′ : List ℕ × (List ℕ × List ℕ)) → (r, o) ≡ turnFace job a b t p budget → (r′, o′) ≡ turnFace job a b t p budget → (r ≡ r′) × (o ≡ o′)
-turn-one job a b t p budget r r′ o o′ u v = numbers-coincide (turnFace job a b t p budget) r r′ o o′ u v
+turn-one job a b t p budget r r′ o o′ u v = words-coincide (turnFace job a b t p budget) r r′ o o′ u v

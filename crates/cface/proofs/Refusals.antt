@@ -7,11 +7,14 @@ use lib.ListN.{length}
 use Rattle.buffers.specs.Buffer.{cell, encode}
 use Rattle.requests.specs.declared.Size.{Size}
 use Rattle.requests.specs.Faults.{faults}
+use Rattle.requests.specs.declared.Buffer.the-variants.{First, Second}
 use Rattle.requests.specs.Exact.{Numbered, Exact}
-use Rattle.requests.proofs.AnswerLaws.{numbered, exact}
+use Rattle.requests.proofs.PairLaws.{faults-positive, pair-positive}
+use Rattle.requests.proofs.AnswerLaws.{positive-append, numbered, exact}
+use Rattle.matrix.proofs.JobLaws.{cell-positive}
 use Rattle.steps.specs.Matrix.{schoolbook}
 use Rattle.matrix.specs.Opening.{openedOf}
-use Rattle.matrix.specs.Turn.{turnedOf}
+use Rattle.matrix.specs.Turn.{cellTests, lateTests, turnedOf}
 use Rattle.matrix.specs.Sum.{sumOf}
 use Rattle.matrix.specs.Difference.{differenceOf}
 use Rattle.matrix.specs.Negation.{negationOf}
@@ -28,35 +31,35 @@ use Rattle.cface.specs.Turn.{turnSizes, turnBytes, turnFaceTests, turnFa
 
 pub check-exact : (s : Size) (a : List ℕ) (r : ℕ) → r ≡ checkFace s a → Numbered (checkFaceTests s a) r
 unfolding checkFace checkFaceTests checkSizes faults
-check-exact s a r says = numbered (checkFaceTests s a) r tt says
+check-exact s a r says = numbered (checkFaceTests s a) r (faults-positive First s (wordsIn a)) says
 
 pub sum-exact : (x y : Size) (a b out : List ℕ) (r : ℕ) (o : List ℕ) → (r, o) ≡ sumFace x y a b out
     → Exact (pairFaceTests x y a b (length out)) out (bytesOf (sumOf (x .rows) (x .columns) (wordsIn a) (wordsIn b))) r o
 unfolding sumFace pairFaceTests pairSizes faults
-sum-exact x y a b out r o says = exact (pairFaceTests x y a b (length out)) _ _ r o tt says
+sum-exact x y a b out r o says = exact (pairFaceTests x y a b (length out)) _ _ r o (pair-positive First Second x y (wordsIn a) (wordsIn b)) says
 
 pub difference-exact : (x y : Size) (a b out : List ℕ) (r : ℕ) (o : List ℕ) → (r, o) ≡ differenceFace x y a b out
     → Exact (pairFaceTests x y a b (length out)) out (bytesOf (differenceOf (x .rows) (x .columns) (wordsIn a) (wordsIn b))) r o
 unfolding differenceFace pairFaceTests pairSizes faults
-difference-exact x y a b out r o says = exact (pairFaceTests x y a b (length out)) _ _ r o tt says
+difference-exact x y a b out r o says = exact (pairFaceTests x y a b (length out)) _ _ r o (pair-positive First Second x y (wordsIn a) (wordsIn b)) says
 
 pub negation-exact : (s : Size) (a out : List ℕ) (r : ℕ) (o : List ℕ) → (r, o) ≡ negationFace s a out
     → Exact (negationFaceTests s a (length out)) out (bytesOf (negationOf (s .rows) (s .columns) (wordsIn a))) r o
 unfolding negationFace negationFaceTests negationSizes faults
-negation-exact s a out r o says = exact (negationFaceTests s a (length out)) _ _ r o tt says
+negation-exact s a out r o says = exact (negationFaceTests s a (length out)) _ _ r o (faults-positive First s (wordsIn a)) says
 
 pub product-exact : (x y : Size) (a b out : List ℕ) (r : ℕ) (o : List ℕ) → (r, o) ≡ productFace x y a b out
     → Exact (productFaceTests x y a b (length out)) out
     (bytesOf (encode (x .rows) (y .columns) (schoolbook (x .columns) (cell (x .columns) (wordsIn a)) (cell (y .columns) (wordsIn b))))) r o
 unfolding productFace productFaceTests productSizes faults
-product-exact x y a b out r o says = exact (productFaceTests x y a b (length out)) _ _ r o tt says
+product-exact x y a b out r o says = exact (productFaceTests x y a b (length out)) _ _ r o (pair-positive First Second x y (wordsIn a) (wordsIn b)) says
 
 pub open-exact : (x y : Size) (w : ℕ) (job a b t p : List ℕ) (r : ℕ) (o : List ℕ × (List ℕ × List ℕ)) → (r, o) ≡ openFace x y w job a b t p
     → Exact {S = List ℕ × (List ℕ × List ℕ)} (openFaceTests x y w (length job) a b (length t) (length p)) (job, (t, p)) (openBytes (openedOf x y w)) r o
 unfolding openFace openFaceTests openSizes faults
-open-exact x y w job a b t p r o says = exact (openFaceTests x y w (length job) a b (length t) (length p)) _ _ r o tt says
+open-exact x y w job a b t p r o says = exact (openFaceTests x y w (length job) a b (length t) (length p)) _ _ r o (pair-positive First Second x y (wordsIn a) (wordsIn b)) says
 
 pub turn-exact : (job a b t p : List ℕ) (budget : ℕ) (r : ℕ) (o : List ℕ × (List ℕ × List ℕ)) → (r, o) ≡ turnFace job a b t p budget
     → Exact {S = List ℕ × (List ℕ × List ℕ)} (turnFaceTests job a b t p) (job, (t, p)) (turnBytes (turnedOf (jobIn (wordsIn job)) (wordsIn a) (wordsIn b) (wordsIn t) (wordsIn p) budget)) r o
 unfolding turnFace turnFaceTests turnSizes faults
-turn-exact job a b t p budget r o says = exact (turnFaceTests job a b t p) _ _ r o tt says
+turn-exact job a b t p budget r o says = exact (turnFaceTests job a b t p) _ _ r o (positive-append (cellTests (jobIn (wordsIn job)) (wordsIn a) (wordsIn b) (wordsIn t) (wordsIn p)) (lateTests (jobIn (wordsIn job)) (wordsIn a)) (cell-positive (jobIn (wordsIn job)) (wordsIn a) (wordsIn b) (wordsIn t) (wordsIn p)) tt) says

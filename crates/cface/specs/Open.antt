@@ -5,6 +5,7 @@ use Prim.Native.Nat.{ℕ}
 use lib.Dec.{ltb}
 use lib.ListN.{length}
 use Rattle.requests.specs.declared.Size.{Size}
+use Rattle.requests.specs.declared.Buffer.the-variants.{First, Second}
 use Rattle.requests.specs.Answers.{Tests, answered}
 use Rattle.requests.specs.Sizes.{over}
 use Rattle.requests.specs.Faults.{pairFaults}
@@ -28,7 +29,7 @@ openSizes x y width k l m t p =
     ∷ []
 
 unfoldable pub openFaceTests : Size → Size → ℕ → ℕ → List ℕ → List ℕ → ℕ → ℕ → Tests
-openFaceTests x y width k a b t p = openSizes x y width k (length a) (length b) t p ++ pairFaults x y (wordsIn a) (wordsIn b)
+openFaceTests x y width k a b t p = openSizes x y width k (length a) (length b) t p ++ pairFaults First Second x y (wordsIn a) (wordsIn b)
 
 -- record, table and product as bytes, of what the library's opening leaves
 abbrev pub openBytes : Job × (List ℕ × List ℕ) → List ℕ × (List ℕ × List ℕ)

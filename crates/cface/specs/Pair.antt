@@ -4,6 +4,7 @@ use mathlib.Core.List.{List, [], _∷_, _++_}
 use Prim.Native.Nat.{ℕ}
 use lib.ListN.{length}
 use Rattle.requests.specs.declared.Size.{Size}
+use Rattle.requests.specs.declared.Buffer.the-variants.{First, Second}
 use Rattle.requests.specs.Answers.{Tests}
 use Rattle.requests.specs.Sizes.{over}
 use Rattle.requests.specs.Faults.{pairFaults}
@@ -16,4 +17,4 @@ unfoldable pub pairSizes : Size → Size → ℕ → ℕ → ℕ → Tests
 pairSizes x y l m n = (over x || over y, 1) ∷ (above x || above y, 11) ∷ (unequal x y, 2) ∷ (unfitBytes x l || (unfitBytes y m || unfitBytes x n), 4) ∷ []
 
 unfoldable pub pairFaceTests : Size → Size → List ℕ → List ℕ → ℕ → Tests
-pairFaceTests x y a b n = pairSizes x y (length a) (length b) n ++ pairFaults x y (wordsIn a) (wordsIn b)
+pairFaceTests x y a b n = pairSizes x y (length a) (length b) n ++ pairFaults First Second x y (wordsIn a) (wordsIn b)

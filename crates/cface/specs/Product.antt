@@ -5,6 +5,7 @@ use Prim.Native.Nat.{ℕ}
 use lib.ListN.{length}
 use Rattle.buffers.specs.Buffer.{cell, encode}
 use Rattle.requests.specs.declared.Size.{Size}
+use Rattle.requests.specs.declared.Buffer.the-variants.{First, Second}
 use Rattle.requests.specs.Answers.{Tests, answered}
 use Rattle.requests.specs.Sizes.{over}
 use Rattle.requests.specs.Faults.{pairFaults}
@@ -23,7 +24,7 @@ productSizes x y l m n =
     ∷ []
 
 unfoldable pub productFaceTests : Size → Size → List ℕ → List ℕ → ℕ → Tests
-productFaceTests x y a b n = productSizes x y (length a) (length b) n ++ pairFaults x y (wordsIn a) (wordsIn b)
+productFaceTests x y a b n = productSizes x y (length a) (length b) n ++ pairFaults First Second x y (wordsIn a) (wordsIn b)
 
 unfoldable pub productFace : Size → Size → List ℕ → List ℕ → List ℕ → ℕ × List ℕ
 productFace x y a b p =

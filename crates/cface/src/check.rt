@@ -2,29 +2,30 @@
 ghost use mathlib.Core.Path.{_≡_};
 ghost use Prim.Native.Nat.{_*_};
 ghost use lib.ListN.{length};
-ghost use Rattle.requests.specs.Answers.{number, first};
+ghost use Rattle.requests.specs.Answers.{word, first};
 ghost use Rattle.cface.specs.Check.{checkSizes, checkFace};
 use super::limit::above;
 use super::limit::unfit;
 use matrix::check::check;
 use requests::Answer;
+use requests::Reason;
 use requests::Size;
-use requests::number;
 use requests::sizes::over;
+use requests::word;
 use wordbytes::bytes::words_in;
 
 // The tests of sizes and lengths; n is how many bytes A has.
 fn judged(s: Size, n: usize) -> Answer
-    ensures { λ r. ⌜ number r ≡ first (checkSizes s n) ⌝ }
+    ensures { λ r. ⌜ word r ≡ first (checkSizes s n) ⌝ }
 {
     if over(s) {
-        return Answer::TooLarge;
+        return Answer::Refused(Reason::TooLarge);
     }
     if above(s) {
-        return Answer::AboveLimit;
+        return Answer::Refused(Reason::AboveLimit);
     }
     if unfit(s, n) {
-        return Answer::LengthWrong;
+        return Answer::Refused(Reason::LengthWrong);
     }
     Answer::Done
 }
@@ -35,7 +36,7 @@ fn check_words(s: Size, a: &[u8], words: &mut [u64]) -> u64
     ensures { λ r. ⌜ r ≡ checkFace s (now (a .entry)) ⌝ }
 {
     words_in(a, words);
-    number(check(s, words))
+    word(check(s, words))
 }
 
 // Lends the part of exactly the right length.
@@ -64,7 +65,7 @@ pub extern "C" fn nyuzolamba_check(rows: u64, columns: u64, a: &[u8]) -> u64
         rows: rows,
         columns: columns,
     };
-    let f = number(judged(s, a.len()));
+    let f = word(judged(s, a.len()));
     if f != 0 {
         return f;
     }

@@ -2,14 +2,14 @@
 ghost use mathlib.Core.Path.{_≡_};
 ghost use Prim.Native.Nat.{_*_};
 ghost use lib.ListN.{length};
-ghost use Rattle.requests.specs.Answers.{number, first};
+ghost use Rattle.requests.specs.Answers.{word, first};
 ghost use Rattle.cface.specs.Pair.{pairSizes};
 ghost use Rattle.cface.specs.Difference.{differenceFace};
 use super::leave::leave;
 use super::pair::judged;
 use matrix::difference::difference;
 use requests::Size;
-use requests::number;
+use requests::word;
 use wordbytes::bytes::words_in_two;
 
 // The words of A, B and the result go into room for exactly as many.
@@ -27,7 +27,7 @@ fn difference_words(
     ensures { λ r. ⌜ (r, now (out .exit)) ≡ differenceFace x y (now (a .entry)) (now (b .entry)) (now (out .entry)) ⌝ }
 {
     words_in_two(a, b, u, v);
-    let f = number(difference(x, y, u, v, w));
+    let f = word(difference(x, y, u, v, w));
     leave(f, w, out)
 }
 
@@ -82,7 +82,7 @@ pub extern "C" fn nyuzolamba_difference(
         rows: b_rows,
         columns: b_columns,
     };
-    let f = number(judged(x, y, a.len(), b.len(), out.len()));
+    let f = word(judged(x, y, a.len(), b.len(), out.len()));
     if f != 0 {
         return f;
     }

@@ -1,4 +1,4 @@
-// What a call leaves where the library gave the number f: every byte as it was, and else the words that are new.
+// What a call leaves where the library gave the word f: every byte as it was, and else the words that are new.
 ghost use mathlib.Core.Path.{_≡_};
 ghost use mathlib.Core.List.{List};
 ghost use Prim.Native.Nat.{ℕ, _*_};
@@ -21,7 +21,8 @@ pub fn leave(f: u64, w: &[u64], out: &mut [u8]) -> u64
     0
 }
 
-fn put_job(
+// A job that is opened or went on: its record, table and product.
+pub fn put_job(
     new: Job,
     made: u64,
     ended: bool,
@@ -37,25 +38,4 @@ fn put_job(
     put_record(new, made, ended, job);
     bytes_of(t, table);
     bytes_of(p, product);
-}
-
-pub fn leave_job(
-    f: u64,
-    new: Job,
-    made: u64,
-    ended: bool,
-    t: &[u64],
-    p: &[u64],
-    job: &mut [u8],
-    table: &mut [u8],
-    product: &mut [u8],
-) -> u64
-    requires { ⌜ (length (now job) ≡ 56) × (length (now table) ≡ 8 * length (now t)) × (length (now product) ≡ 8 * length (now p)) ⌝ }
-    ensures { λ r. ⌜ _≡_ {A = ℕ × (List ℕ × (List ℕ × List ℕ))} (r, (now (job .exit), (now (table .exit), now (product .exit)))) (f, left f (now (job .entry), (now (table .entry), now (product .entry))) (bytesOf (recordOf new made ended), (bytesOf (now (t .entry)), bytesOf (now (p .entry))))) ⌝ }
-{
-    if f != 0 {
-        return f;
-    }
-    put_job(new, made, ended, t, p, job, table, product);
-    0
 }

@@ -3,7 +3,7 @@ ghost use mathlib.Core.Path.{_≡_};
 ghost use mathlib.Core.Bool.{false, _||_};
 ghost use Prim.Native.Nat.{_*_};
 ghost use lib.ListN.{length};
-ghost use Rattle.requests.specs.Answers.{number, first};
+ghost use Rattle.requests.specs.Answers.{word, first};
 ghost use Rattle.requests.specs.Sizes.{over};
 ghost use Rattle.cface.specs.Limit.{unfitBytes};
 ghost use Rattle.cface.specs.Negation.{negationSizes, negationFace};
@@ -12,9 +12,10 @@ use super::limit::above;
 use super::limit::unfit;
 use matrix::negation::negation;
 use requests::Answer;
+use requests::Reason;
 use requests::Size;
-use requests::number;
 use requests::sizes::over;
+use requests::word;
 use wordbytes::bytes::words_in;
 
 fn either_unfit(s: Size, l: usize, n: usize) -> bool
@@ -29,16 +30,16 @@ fn either_unfit(s: Size, l: usize, n: usize) -> bool
 
 // The tests of sizes and lengths; l and n are how many bytes A and the result have.
 fn judged(s: Size, l: usize, n: usize) -> Answer
-    ensures { λ r. ⌜ number r ≡ first (negationSizes s l n) ⌝ }
+    ensures { λ r. ⌜ word r ≡ first (negationSizes s l n) ⌝ }
 {
     if over(s) {
-        return Answer::TooLarge;
+        return Answer::Refused(Reason::TooLarge);
     }
     if above(s) {
-        return Answer::AboveLimit;
+        return Answer::Refused(Reason::AboveLimit);
     }
     if either_unfit(s, l, n) {
-        return Answer::LengthWrong;
+        return Answer::Refused(Reason::LengthWrong);
     }
     Answer::Done
 }
@@ -49,7 +50,7 @@ fn negation_words(s: Size, a: &[u8], out: &mut [u8], u: &mut [u64], w: &mut [u64
     ensures { λ r. ⌜ (r, now (out .exit)) ≡ negationFace s (now (a .entry)) (now (out .entry)) ⌝ }
 {
     words_in(a, u);
-    let f = number(negation(s, u, w));
+    let f = word(negation(s, u, w));
     leave(f, w, out)
 }
 
@@ -81,7 +82,7 @@ pub extern "C" fn nyuzolamba_negation(rows: u64, columns: u64, a: &[u8], out: &m
         rows: rows,
         columns: columns,
     };
-    let f = number(judged(s, a.len(), out.len()));
+    let f = word(judged(s, a.len(), out.len()));
     if f != 0 {
         return f;
     }

@@ -2,40 +2,43 @@
 ghost use mathlib.Core.Path.{_≡_};
 ghost use Prim.Native.Nat.{_*_};
 ghost use lib.ListN.{length};
-ghost use Rattle.requests.specs.Answers.{number, first};
+ghost use Rattle.requests.specs.Answers.{word, first};
 ghost use Rattle.cface.specs.Open.{openSizes, openFace};
-use super::leave::leave_job;
+use super::leave::put_job;
 use super::limit::either_above;
 use super::limit::misfit;
 use matrix::job::meant;
+use matrix::opening::Opened;
 use matrix::opening::opening;
 use requests::Answer;
+use requests::Reason;
 use requests::Size;
-use requests::number;
+use requests::reason_word;
 use requests::sizes::either_over;
+use requests::word;
 use wordbytes::bytes::words_in_two;
 
 // The tests of sizes, width and lengths; k, l, m, t and p are how many bytes record, A, B, table and product have.
 fn judged(x: Size, y: Size, width: u64, k: usize, l: usize, m: usize, t: usize, p: usize) -> Answer
-    ensures { λ r. ⌜ number r ≡ first (openSizes x y width k l m t p) ⌝ }
+    ensures { λ r. ⌜ word r ≡ first (openSizes x y width k l m t p) ⌝ }
 {
     if k != 56 {
-        return Answer::LengthWrong;
+        return Answer::Refused(Reason::LengthWrong);
     }
     if either_over(x, y) {
-        return Answer::TooLarge;
+        return Answer::Refused(Reason::TooLarge);
     }
     if either_above(x, y) {
-        return Answer::AboveLimit;
+        return Answer::Refused(Reason::AboveLimit);
     }
     if x.columns != y.rows {
-        return Answer::SizesDiffer;
+        return Answer::Refused(Reason::SizesDiffer);
     }
     if width > 8 {
-        return Answer::WidthWrong;
+        return Answer::Refused(Reason::WidthWrong);
     }
     if misfit(x, y, meant(width), l, m, t, p) {
-        return Answer::LengthWrong;
+        return Answer::Refused(Reason::LengthWrong);
     }
     Answer::Done
 }
@@ -60,10 +63,13 @@ fn open_words(
 {
     words_in_two(a, b, u, v);
     let opened = opening(x, y, width, u, v, t, p);
-    let answer = opened.answer;
-    let f = number(answer);
-    let new = opened.job;
-    leave_job(f, new, 0, false, t, p, job, table, product)
+    match opened {
+        Opened::Done(new) => {
+            put_job(new, 0, false, t, p, job, table, product);
+            0
+        }
+        Opened::Refused(why) => reason_word(why),
+    }
 }
 
 // Lends the parts of exactly the right length.
@@ -161,7 +167,7 @@ pub extern "C" fn nyuzolamba_open(
         rows: b_rows,
         columns: b_columns,
     };
-    let f = number(judged(
+    let f = word(judged(
         x,
         y,
         width,

@@ -1,7 +1,7 @@
 // Two matrices of the same size.
 ghost use mathlib.Core.Path.{_≡_};
 ghost use mathlib.Core.Bool.{false, _||_};
-ghost use Rattle.requests.specs.Answers.{number, first};
+ghost use Rattle.requests.specs.Answers.{word, first};
 ghost use Rattle.requests.specs.Sizes.{over};
 ghost use Rattle.requests.specs.Pair.{unequal};
 ghost use Rattle.cface.specs.Limit.{unfitBytes};
@@ -9,6 +9,7 @@ ghost use Rattle.cface.specs.Pair.{pairSizes};
 use super::limit::either_above;
 use super::limit::unfit;
 use requests::Answer;
+use requests::Reason;
 use requests::Size;
 use requests::sizes::either_over;
 
@@ -37,19 +38,19 @@ pub fn unfits(x: Size, y: Size, z: Size, l: usize, m: usize, n: usize) -> bool
 
 // The tests of sizes and lengths; l, m and n are how many bytes A, B and the result have.
 pub fn judged(x: Size, y: Size, l: usize, m: usize, n: usize) -> Answer
-    ensures { λ r. ⌜ number r ≡ first (pairSizes x y l m n) ⌝ }
+    ensures { λ r. ⌜ word r ≡ first (pairSizes x y l m n) ⌝ }
 {
     if either_over(x, y) {
-        return Answer::TooLarge;
+        return Answer::Refused(Reason::TooLarge);
     }
     if either_above(x, y) {
-        return Answer::AboveLimit;
+        return Answer::Refused(Reason::AboveLimit);
     }
     if unequal(x, y) {
-        return Answer::SizesDiffer;
+        return Answer::Refused(Reason::SizesDiffer);
     }
     if unfits(x, y, x, l, m, n) {
-        return Answer::LengthWrong;
+        return Answer::Refused(Reason::LengthWrong);
     }
     Answer::Done
 }

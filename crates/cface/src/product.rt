@@ -3,7 +3,7 @@ ghost use mathlib.Core.Path.{_≡_};
 ghost use Prim.Native.Nat.{_*_};
 ghost use lib.ListN.{length};
 ghost use Rattle.buffers.specs.Buffer.{words};
-ghost use Rattle.requests.specs.Answers.{number, first};
+ghost use Rattle.requests.specs.Answers.{word, first};
 ghost use Rattle.cface.specs.Product.{productSizes, productFace};
 use super::leave::leave;
 use super::limit::either_above;
@@ -11,30 +11,31 @@ use super::pair::unfits;
 use buffers::planes::planes;
 use matrix::product::product;
 use requests::Answer;
+use requests::Reason;
 use requests::Size;
-use requests::number;
 use requests::sizes::either_over;
+use requests::word;
 use wordbytes::bytes::words_in_two;
 
 // The tests of sizes and lengths; l, m and n are how many bytes A, B and the product have.
 fn judged(x: Size, y: Size, l: usize, m: usize, n: usize) -> Answer
-    ensures { λ r. ⌜ number r ≡ first (productSizes x y l m n) ⌝ }
+    ensures { λ r. ⌜ word r ≡ first (productSizes x y l m n) ⌝ }
 {
     if either_over(x, y) {
-        return Answer::TooLarge;
+        return Answer::Refused(Reason::TooLarge);
     }
     if either_above(x, y) {
-        return Answer::AboveLimit;
+        return Answer::Refused(Reason::AboveLimit);
     }
     if x.columns != y.rows {
-        return Answer::SizesDiffer;
+        return Answer::Refused(Reason::SizesDiffer);
     }
     let z = Size {
         rows: x.rows,
         columns: y.columns,
     };
     if unfits(x, y, z, l, m, n) {
-        return Answer::LengthWrong;
+        return Answer::Refused(Reason::LengthWrong);
     }
     Answer::Done
 }
@@ -55,7 +56,7 @@ fn product_words(
     ensures { λ r. ⌜ (r, now (out .exit)) ≡ productFace x y (now (a .entry)) (now (b .entry)) (now (out .entry)) ⌝ }
 {
     words_in_two(a, b, u, v);
-    let f = number(product(x, y, 0, u, v, table, w));
+    let f = word(product(x, y, 0, u, v, table, w));
     leave(f, w, out)
 }
 
@@ -123,7 +124,7 @@ pub extern "C" fn nyuzolamba_product(
         rows: b_rows,
         columns: b_columns,
     };
-    let f = number(judged(x, y, a.len(), b.len(), product.len()));
+    let f = word(judged(x, y, a.len(), b.len(), product.len()));
     if f != 0 {
         return f;
     }

@@ -2,28 +2,31 @@
 ghost use mathlib.Core.Path.{_≡_};
 ghost use Prim.Native.Nat.{_*_};
 ghost use lib.ListN.{length};
-ghost use Rattle.requests.specs.Answers.{number, first};
+ghost use Rattle.requests.specs.Answers.{word, first};
 ghost use Rattle.wordbytes.specs.Bytes.{wordsIn};
 ghost use Rattle.matrix.specs.Record.{jobIn};
 ghost use Rattle.cface.specs.Turn.{turnSizes, turnFace};
-use super::leave::leave_job;
+use super::leave::put_job;
 use super::limit::either_above;
 use super::limit::misfit;
 use super::record::job_in;
 use matrix::job::Job;
+use matrix::turn::Turned;
 use matrix::turn::unwide;
 use requests::Answer;
+use requests::Reason;
 use requests::Size;
-use requests::number;
+use requests::reason_word;
 use requests::sizes::either_over;
+use requests::word;
 use wordbytes::bytes::words_in_two;
 
 // The tests of sizes, width and lengths; k, l, m, t and p are how many bytes record, A, B, table and product have.
 fn judged(job: Job, k: usize, l: usize, m: usize, t: usize, p: usize) -> Answer
-    ensures { λ r. ⌜ number r ≡ first (turnSizes job k l m t p) ⌝ }
+    ensures { λ r. ⌜ word r ≡ first (turnSizes job k l m t p) ⌝ }
 {
     if k != 56 {
-        return Answer::LengthWrong;
+        return Answer::Refused(Reason::LengthWrong);
     }
     let x = Size {
         rows: job.m,
@@ -34,17 +37,17 @@ fn judged(job: Job, k: usize, l: usize, m: usize, t: usize, p: usize) -> Answer
         columns: job.n,
     };
     if either_over(x, y) {
-        return Answer::TooLarge;
+        return Answer::Refused(Reason::TooLarge);
     }
     if either_above(x, y) {
-        return Answer::AboveLimit;
+        return Answer::Refused(Reason::AboveLimit);
     }
     let width = job.width;
     if unwide(width) {
-        return Answer::WidthWrong;
+        return Answer::Refused(Reason::WidthWrong);
     }
     if misfit(x, y, width, l, m, t, p) {
-        return Answer::LengthWrong;
+        return Answer::Refused(Reason::LengthWrong);
     }
     Answer::Done
 }
@@ -69,20 +72,17 @@ fn turn_words(
     words_in_two(a, b, u, v);
     words_in_two(table, product, t, p);
     let turned = matrix::turn::turn(found, u, v, t, p, budget);
-    let answer = turned.answer;
-    let f = number(answer);
-    let next = turned.job;
-    leave_job(
-        f,
-        next,
-        turned.made,
-        turned.finished,
-        t,
-        p,
-        job,
-        table,
-        product,
-    )
+    match turned {
+        Turned::Done {
+            job: next,
+            made,
+            finished,
+        } => {
+            put_job(next, made, finished, t, p, job, table, product);
+            0
+        }
+        Turned::Refused(why) => reason_word(why),
+    }
 }
 
 // Lends the parts of exactly the right length.
@@ -166,10 +166,10 @@ pub extern "C" fn nyuzolamba_turn(
     ensures { λ r. ⌜ (r, (now (job .exit), (now (table .exit), now (product .exit)))) ≡ turnFace (now (job .entry)) (now (a .entry)) (now (b .entry)) (now (table .entry)) (now (product .entry)) budget ⌝ }
 {
     if job.len() != 56 {
-        return number(Answer::LengthWrong);
+        return word(Answer::Refused(Reason::LengthWrong));
     }
     let found = job_in(job);
-    let f = number(judged(
+    let f = word(judged(
         found,
         job.len(),
         a.len(),

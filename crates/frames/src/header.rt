@@ -1,11 +1,12 @@
 // The header line: rows, then columns, four digits each, and byte 10.
 ghost use mathlib.Core.Path.{_≡_};
-ghost use Rattle.requests.specs.Answers.{number};
+ghost use Rattle.requests.specs.Answers.{word};
 ghost use Rattle.frames.specs.Header.{readHeaderMeans, writeHeaderMeans};
 use hex::line::put;
 use hex::line::unframed;
 use hex::line::value;
 use requests::Answer;
+use requests::Reason;
 use requests::Size;
 use requests::sizes::over;
 
@@ -17,11 +18,11 @@ pub struct Header {
 }
 
 pub fn read_header(line: &[u8]) -> Header
-    ensures { λ r. ⌜ (number (r .answer), (r .rows, r .columns)) ≡ readHeaderMeans (now (line .entry)) ⌝ }
+    ensures { λ r. ⌜ (word (r .answer), (r .rows, r .columns)) ≡ readHeaderMeans (now (line .entry)) ⌝ }
 {
     if unframed(line, 8) {
         return Header {
-            answer: Answer::NotAFrame,
+            answer: Answer::Refused(Reason::NotAFrame),
             rows: 0,
             columns: 0,
         };
@@ -34,7 +35,7 @@ pub fn read_header(line: &[u8]) -> Header
     };
     if over(s) {
         return Header {
-            answer: Answer::TooLarge,
+            answer: Answer::Refused(Reason::TooLarge),
             rows: 0,
             columns: 0,
         };
@@ -48,13 +49,13 @@ pub fn read_header(line: &[u8]) -> Header
 
 // The two counts are one number of eight digits.
 pub fn write_header(s: Size, line: &mut [u8]) -> Answer
-    ensures { λ r. ⌜ (number r, now (line .exit)) ≡ writeHeaderMeans s (now (line .entry)) ⌝ }
+    ensures { λ r. ⌜ (word r, now (line .exit)) ≡ writeHeaderMeans s (now (line .entry)) ⌝ }
 {
     if over(s) {
-        return Answer::TooLarge;
+        return Answer::Refused(Reason::TooLarge);
     }
     if line.len() != 9 {
-        return Answer::LengthWrong;
+        return Answer::Refused(Reason::LengthWrong);
     }
     put(s.rows * 65536 + s.columns, 8, line);
     Answer::Done

@@ -2,7 +2,7 @@
 ghost use mathlib.Core.Path.{_≡_};
 ghost use Prim.Native.Nat.{ℕ, _+_, _*_, _≤_, _<_};
 ghost use lib.ListN.{length, getD};
-ghost use Rattle.requests.specs.Answers.{number, first};
+ghost use Rattle.requests.specs.Answers.{word, first};
 ghost use Rattle.hex.specs.Digit.{digitOf};
 ghost use Rattle.frames.specs.RowLine.{lineOf, wordsOf, readRowTests, readRowMeans, writeRowTests, writeRowMeans};
 use buffers::planes::planes;
@@ -10,21 +10,22 @@ use hex::digit::byte_of;
 use hex::line::unframed;
 use hex::line::value;
 use requests::Answer;
-use requests::number;
+use requests::Reason;
+use requests::word;
 
 // What is wrong with a line to be read into n words.
 fn readable(columns: u64, line: &[u8], n: usize) -> Answer
-    ensures { λ r. ⌜ number r ≡ first (readRowTests columns (now (line .entry)) n) ⌝ }
+    ensures { λ r. ⌜ word r ≡ first (readRowTests columns (now (line .entry)) n) ⌝ }
 {
     if columns > 1024 {
-        return Answer::TooLarge;
+        return Answer::Refused(Reason::TooLarge);
     }
     let w = 2 * planes(columns as usize);
     if n != w {
-        return Answer::LengthWrong;
+        return Answer::Refused(Reason::LengthWrong);
     }
     if unframed(line, w * 16) {
-        return Answer::NotAFrame;
+        return Answer::Refused(Reason::NotAFrame);
     }
     Answer::Done
 }
@@ -43,10 +44,10 @@ fn read_words(line: &[u8], words: &mut [u64])
 
 // The whole line is tested before a word is written.
 pub fn read_row(columns: u64, line: &[u8], words: &mut [u64]) -> Answer
-    ensures { λ r. ⌜ (number r, now (words .exit)) ≡ readRowMeans columns (now (line .entry)) (now (words .entry)) ⌝ }
+    ensures { λ r. ⌜ (word r, now (words .exit)) ≡ readRowMeans columns (now (line .entry)) (now (words .entry)) ⌝ }
 {
     let f = readable(columns, line, words.len());
-    if number(f) != 0 {
+    if word(f) != 0 {
         return f;
     }
     read_words(line, words);
@@ -55,17 +56,17 @@ pub fn read_row(columns: u64, line: &[u8], words: &mut [u64]) -> Answer
 
 // What is wrong with n words to be written into m bytes.
 fn writable(columns: u64, n: usize, m: usize) -> Answer
-    ensures { λ r. ⌜ number r ≡ first (writeRowTests columns n m) ⌝ }
+    ensures { λ r. ⌜ word r ≡ first (writeRowTests columns n m) ⌝ }
 {
     if columns > 1024 {
-        return Answer::TooLarge;
+        return Answer::Refused(Reason::TooLarge);
     }
     let w = 2 * planes(columns as usize);
     if n != w {
-        return Answer::LengthWrong;
+        return Answer::Refused(Reason::LengthWrong);
     }
     if m != w * 16 + 1 {
-        return Answer::LengthWrong;
+        return Answer::Refused(Reason::LengthWrong);
     }
     Answer::Done
 }
@@ -86,10 +87,10 @@ fn write_words(words: &[u64], line: &mut [u8])
 }
 
 pub fn write_row(columns: u64, words: &[u64], line: &mut [u8]) -> Answer
-    ensures { λ r. ⌜ (number r, now (line .exit)) ≡ writeRowMeans columns (now (words .entry)) (now (line .entry)) ⌝ }
+    ensures { λ r. ⌜ (word r, now (line .exit)) ≡ writeRowMeans columns (now (words .entry)) (now (line .entry)) ⌝ }
 {
     let f = writable(columns, words.len(), line.len());
-    if number(f) != 0 {
+    if word(f) != 0 {
         return f;
     }
     write_words(words, line);

@@ -1,6 +1,9 @@
 // Quotes, and jobs of no column in A or in B.
 use super::show::answer;
 use super::show::value;
+use matrix::job::Job;
+use matrix::opening::Opened;
+use matrix::turn::Turned;
 use requests::Size;
 
 fn size(rows: u64, columns: u64) -> Size {
@@ -74,27 +77,32 @@ pub fn no_columns() {
         &mut table[0..0],
         &mut product[0..0],
     );
-    let said = opened.answer;
-    answer(b"opening, n = 0:", said);
-    let one = matrix::turn::turn(
-        opened.job,
-        &a,
-        &b[0..0],
-        &mut table[0..0],
-        &mut product[0..0],
-        5,
-    );
-    value(b"steps of a turn with budget 5:", one.made);
-    value(b"finished:", one.finished as u64);
-    let two = matrix::turn::turn(
-        one.job,
-        &a,
-        &b[0..0],
-        &mut table[0..0],
-        &mut product[0..0],
-        5,
-    );
-    value(b"steps of the next:", two.made);
-    value(b"steps done:", two.job.done);
-    value(b"finished:", two.finished as u64);
+    let Opened::Done(new) = opened else {
+        value(b"opening, n = 0, refused:", 1);
+        return;
+    };
+    value(b"opening, n = 0:", new.done);
+    let next = one_turn(new, &a);
+    one_turn(next, &a);
+}
+
+// A turn with budget 5 where B has no column: what it says, and the record it answers.
+fn one_turn(job: Job, a: &[u64]) -> Job {
+    let b = [0u64; 1];
+    let mut table = [0u64; 1];
+    let mut product = [0u64; 1];
+    let turned = matrix::turn::turn(job, a, &b[0..0], &mut table[0..0], &mut product[0..0], 5);
+    let Turned::Done {
+        job: next,
+        made,
+        finished,
+    } = turned
+    else {
+        value(b"turn, n = 0, refused:", 1);
+        return job;
+    };
+    value(b"steps of a turn with budget 5:", made);
+    value(b"steps done:", next.done);
+    value(b"finished:", finished as u64);
+    next
 }

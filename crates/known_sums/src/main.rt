@@ -1,7 +1,9 @@
-// Runs what document 01 lists without a star, one line each: a label and what came back. The file stdout has what the document says.
+// Runs what document 01 lists without a star, one line each: a label and what came back; then refusals with their places. The file stdout has what the
+// document says.
 mod empty;
 mod jobs;
 mod limits;
+mod places;
 mod show;
 
 fn main() {
@@ -13,4 +15,9 @@ fn main() {
     jobs::quotes();
     jobs::no_middle();
     jobs::no_columns();
+    places::of_one();
+    places::beyond_a_word();
+    places::of_two();
+    places::of_digits();
+    places::of_a_turn();
 }

@@ -9,7 +9,7 @@ use lib.ListN.{length}
 use Rattle.buffers.specs.Buffer.{cell, encode}
 use Rattle.requests.specs.declared.Size.{Size}
 use Rattle.requests.specs.declared.Answer.{Answer}
-use Rattle.requests.specs.Answers.{number}
+use Rattle.requests.specs.Answers.{word}
 use Rattle.requests.specs.Faults.{faults}
 use Rattle.requests.specs.Single.{singleTests}
 use Rattle.requests.specs.Pair.{pairTests}
@@ -25,76 +25,83 @@ use Rattle.matrix.specs.Transpose.{transposedSize, transposeOf, transpos
 use Rattle.rows.specs.Tally.{columnsWith, tallyRow}
 use Rattle.matrix.specs.Tally.{tallyMeans}
 use Rattle.matrix.specs.declared.job.Job.{Job}
+use Rattle.matrix.specs.declared.opening.Opened.{Opened}
+use Rattle.matrix.specs.declared.turn.Turned.{Turned}
 use Rattle.matrix.specs.Job.{meant, totalOf}
 use Rattle.matrix.specs.Quote.{quoteTests, quoteMeans}
 use Rattle.matrix.specs.Total.{totalTests, totalMeans}
-use Rattle.matrix.specs.Opening.{openingTests, noJob, openedOf, openingMeans}
-use Rattle.matrix.specs.Turn.{foundTests, turnTests, turnedOf, turnMeans}
+use Rattle.matrix.specs.Opening.{opened, openingTests, noJob, openedOf, openingMeans}
+use Rattle.matrix.specs.Turn.{turned, foundTests, turnTests, turnedOf, turnMeans}
 use Rattle.matrix.specs.Product.{endOf, productMeans}
 use Rattle.steps.specs.Count.{quote}
+use Rattle.requests.specs.declared.Buffer.the-variants.{First, Second}
 use Rattle.requests.specs.Exact.{Numbered, Exact}
+use Rattle.requests.proofs.PairLaws.{faults-positive, pair-positive}
 use Rattle.requests.proofs.AnswerLaws.{numbered, exact}
+use Rattle.matrix.proofs.PackLaws.{pack-positive}
+use Rattle.matrix.proofs.JobLaws.{turn-positive}
 
-pub check-exact : (s : Size) (a : List ℕ) (r : Answer) → number r ≡ checkMeans s a → Numbered (checkTests s a) (number r)
+pub check-exact : (s : Size) (a : List ℕ) (r : Answer) → word r ≡ checkMeans s a → Numbered (checkTests s a) (word r)
 unfolding checkMeans checkTests faults
-check-exact s a r says = numbered (checkTests s a) (number r) tt says
+check-exact s a r says = numbered (checkTests s a) (word r) (faults-positive First s a) says
 
-pub sum-exact : (x y : Size) (a b out : List ℕ) (r : Answer) (o : List ℕ) → (number r, o) ≡ sumMeans x y a b out → Exact (pairTests x y a b (length out)) out (sumOf (x .rows) (x .columns) a b) (number r) o
+pub sum-exact : (x y : Size) (a b out : List ℕ) (r : Answer) (o : List ℕ) → (word r, o) ≡ sumMeans x y a b out → Exact (pairTests x y a b (length out)) out (sumOf (x .rows) (x .columns) a b) (word r) o
 unfolding sumMeans pairTests faults
-sum-exact x y a b out r o says = exact (pairTests x y a b (length out)) out (sumOf (x .rows) (x .columns) a b) (number r) o tt says
+sum-exact x y a b out r o says = exact (pairTests x y a b (length out)) out (sumOf (x .rows) (x .columns) a b) (word r) o (pair-positive First Second x y a b) says
 
-pub difference-exact : (x y : Size) (a b out : List ℕ) (r : Answer) (o : List ℕ) → (number r, o) ≡ differenceMeans x y a b out → Exact (pairTests x y a b (length out)) out (differenceOf (x .rows) (x .columns) a b) (number r) o
+pub difference-exact : (x y : Size) (a b out : List ℕ) (r : Answer) (o : List ℕ) → (word r, o) ≡ differenceMeans x y a b out → Exact (pairTests x y a b (length out)) out (differenceOf (x .rows) (x .columns) a b) (word r) o
 unfolding differenceMeans pairTests faults
-difference-exact x y a b out r o says = exact (pairTests x y a b (length out)) out (differenceOf (x .rows) (x .columns) a b) (number r) o tt says
+difference-exact x y a b out r o says = exact (pairTests x y a b (length out)) out (differenceOf (x .rows) (x .columns) a b) (word r) o (pair-positive First Second x y a b) says
 
-pub negation-exact : (s : Size) (a out : List ℕ) (r : Answer) (o : List ℕ) → (number r, o) ≡ negationMeans s a out → Exact (singleTests s s a (length out)) out (negationOf (s .rows) (s .columns) a) (number r) o
+pub negation-exact : (s : Size) (a out : List ℕ) (r : Answer) (o : List ℕ) → (word r, o) ≡ negationMeans s a out → Exact (singleTests s s a (length out)) out (negationOf (s .rows) (s .columns) a) (word r) o
 unfolding negationMeans singleTests faults
-negation-exact s a out r o says = exact (singleTests s s a (length out)) out (negationOf (s .rows) (s .columns) a) (number r) o tt says
+negation-exact s a out r o says = exact (singleTests s s a (length out)) out (negationOf (s .rows) (s .columns) a) (word r) o (faults-positive First s a) says
 
-pub scaling-exact : (s : Size) (d : ℕ) (a out : List ℕ) (r : Answer) (o : List ℕ) → (number r, o) ≡ scalingMeans s d a out → Exact (scalingTests s d a (length out)) out (scalingOf d (s .rows) (s .columns) a) (number r) o
+pub scaling-exact : (s : Size) (d : ℕ) (a out : List ℕ) (r : Answer) (o : List ℕ) → (word r, o) ≡ scalingMeans s d a out → Exact (scalingTests s d a (length out)) out (scalingOf d (s .rows) (s .columns) a) (word r) o
 unfolding scalingMeans scalingTests faults
-scaling-exact s d a out r o says = exact (scalingTests s d a (length out)) out (scalingOf d (s .rows) (s .columns) a) (number r) o tt says
+scaling-exact s d a out r o says = exact (scalingTests s d a (length out)) out (scalingOf d (s .rows) (s .columns) a) (word r) o (faults-positive First s a) says
 
-pub transpose-exact : (s : Size) (a out : List ℕ) (r : Answer) (o : List ℕ) → (number r, o) ≡ transposeMeans s a out → Exact (singleTests s (transposedSize s) a (length out)) out (transposeOf (s .rows) (s .columns) a) (number r) o
+pub transpose-exact : (s : Size) (a out : List ℕ) (r : Answer) (o : List ℕ) → (word r, o) ≡ transposeMeans s a out → Exact (singleTests s (transposedSize s) a (length out)) out (transposeOf (s .rows) (s .columns) a) (word r) o
 unfolding transposeMeans singleTests faults
-transpose-exact s a out r o says = exact (singleTests s (transposedSize s) a (length out)) out (transposeOf (s .rows) (s .columns) a) (number r) o tt says
+transpose-exact s a out r o says = exact (singleTests s (transposedSize s) a (length out)) out (transposeOf (s .rows) (s .columns) a) (word r) o (faults-positive First s a) says
 
-pub pack-exact : (s : Size) (cells out : List ℕ) (r : Answer) (o : List ℕ) → (number r, o) ≡ packMeans s cells out → Exact (packTests s cells (length out)) out (packOf (s .rows) (s .columns) cells) (number r) o
+pub pack-exact : (s : Size) (cells out : List ℕ) (r : Answer) (o : List ℕ) → (word r, o) ≡ packMeans s cells out → Exact (packTests s cells (length out)) out (packOf (s .rows) (s .columns) cells) (word r) o
 unfolding packMeans packTests
-pack-exact s cells out r o says = exact (packTests s cells (length out)) out (packOf (s .rows) (s .columns) cells) (number r) o tt says
+pack-exact s cells out r o says = exact (packTests s cells (length out)) out (packOf (s .rows) (s .columns) cells) (word r) o (pack-positive s cells (length out)) says
 
-pub unpack-exact : (s : Size) (a out : List ℕ) (r : Answer) (o : List ℕ) → (number r, o) ≡ unpackMeans s a out → Exact (unpackTests s a (length out)) out (unpackOf (s .rows) (s .columns) a) (number r) o
+pub unpack-exact : (s : Size) (a out : List ℕ) (r : Answer) (o : List ℕ) → (word r, o) ≡ unpackMeans s a out → Exact (unpackTests s a (length out)) out (unpackOf (s .rows) (s .columns) a) (word r) o
 unfolding unpackMeans unpackTests faults
-unpack-exact s a out r o says = exact (unpackTests s a (length out)) out (unpackOf (s .rows) (s .columns) a) (number r) o tt says
+unpack-exact s a out r o says = exact (unpackTests s a (length out)) out (unpackOf (s .rows) (s .columns) a) (word r) o (faults-positive First s a) says
 
-pub tally-exact : (c : ℕ) (a : List ℕ) (r : Tallied) → (number (r .answer), (r .counts, r .balanced)) ≡ tallyMeans c a
+pub tally-exact : (c : ℕ) (a : List ℕ) (r : Tallied) → (word (r .answer), (r .counts, r .balanced)) ≡ tallyMeans c a
     → Exact {S = List ℕ × Bool} (checkTests (record { rows = 1; columns = c }) a) (0 ∷ 0 ∷ 0 ∷ [], false)
-    (tallyRow (cell c a 0) c, eqb (columnsWith 1 (cell c a 0) c) (columnsWith 2 (cell c a 0) c)) (number (r .answer)) (r .counts, r .balanced)
+    (tallyRow (cell c a 0) c, eqb (columnsWith 1 (cell c a 0) c) (columnsWith 2 (cell c a 0) c)) (word (r .answer)) (r .counts, r .balanced)
 unfolding tallyMeans checkTests faults
-tally-exact c a r says = exact (checkTests (record { rows = 1; columns = c }) a) _ _ (number (r .answer)) (r .counts, r .balanced) tt says
+tally-exact c a r says = exact (checkTests (record { rows = 1; columns = c }) a) _ _ (word (r .answer)) (r .counts, r .balanced) (faults-positive First (record { rows = 1; columns = c }) a) says
 
 -- ---- jobs
 
-pub quote-exact : (x : Size) (w : ℕ) (r : Answer) (n : ℕ) → (number r, n) ≡ quoteMeans x w → Exact (quoteTests x w) 0 (quote (x .rows) (x .columns) (meant w)) (number r) n
+pub quote-exact : (x : Size) (w : ℕ) (r : Answer) (n : ℕ) → (word r, n) ≡ quoteMeans x w → Exact (quoteTests x w) 0 (quote (x .rows) (x .columns) (meant w)) (word r) n
 unfolding quoteMeans quoteTests
-quote-exact x w r n says = exact (quoteTests x w) _ _ (number r) n tt says
+quote-exact x w r n says = exact (quoteTests x w) _ _ (word r) n tt says
 
-pub total-exact : (x : Size) (w : ℕ) (a : List ℕ) (r : Answer) (n : ℕ) → (number r, n) ≡ totalMeans x w a → Exact (totalTests x w a) 0 (totalOf x (meant w) a) (number r) n
+pub total-exact : (x : Size) (w : ℕ) (a : List ℕ) (r : Answer) (n : ℕ) → (word r, n) ≡ totalMeans x w a → Exact (totalTests x w a) 0 (totalOf x (meant w) a) (word r) n
 unfolding totalMeans totalTests faults
-total-exact x w a r n says = exact (totalTests x w a) _ _ (number r) n tt says
+total-exact x w a r n says = exact (totalTests x w a) _ _ (word r) n (faults-positive First x a) says
 
-pub opening-exact : (x y : Size) (w : ℕ) (a b t p : List ℕ) (r : Answer) (o : Job × (List ℕ × List ℕ)) → (number r, o) ≡ openingMeans x y w a b t p
-    → Exact {S = Job × (List ℕ × List ℕ)} (openingTests x y w a b (length t) (length p)) (noJob, (t, p)) (openedOf x y w) (number r) o
+pub opening-exact : (x y : Size) (w : ℕ) (a b t p : List ℕ) (r : Opened) (t₁ p₁ : List ℕ) → opened r t₁ p₁ ≡ openingMeans x y w a b t p
+    → Exact {S = Job × (List ℕ × List ℕ)} (openingTests x y w a b (length t) (length p)) (noJob, (t, p)) (openedOf x y w) (opened r t₁ p₁ .0) (opened r t₁ p₁ .1)
 unfolding openingMeans openingTests faults
-opening-exact x y w a b t p r o says = exact (openingTests x y w a b (length t) (length p)) _ _ (number r) o tt says
+opening-exact x y w a b t p r t₁ p₁ says =
+    exact (openingTests x y w a b (length t) (length p)) _ _ (opened r t₁ p₁ .0) (opened r t₁ p₁ .1) (pair-positive First Second x y a b) says
 
-pub turn-exact : (job : Job) (a b t p : List ℕ) (budget : ℕ) (r : Answer) (o : Job × (ℕ × (Bool × (List ℕ × List ℕ)))) → (number r, o) ≡ turnMeans job a b t p budget
-    → Exact {S = Job × (ℕ × (Bool × (List ℕ × List ℕ)))} (turnTests job a b t p) (job, (0, (false, (t, p)))) (turnedOf job a b t p budget) (number r) o
+pub turn-exact : (job : Job) (a b t p : List ℕ) (budget : ℕ) (r : Turned) (t₁ p₁ : List ℕ) → turned r t₁ p₁ ≡ turnMeans job a b t p budget
+    → Exact {S = Job × (ℕ × (Bool × (List ℕ × List ℕ)))} (turnTests job a b t p) (noJob, (0, (false, (t, p)))) (turnedOf job a b t p budget) (turned r t₁ p₁ .0) (turned r t₁ p₁ .1)
 unfolding turnMeans turnTests foundTests faults
-turn-exact job a b t p budget r o says = exact (turnTests job a b t p) _ _ (number r) o tt says
+turn-exact job a b t p budget r t₁ p₁ says = exact (turnTests job a b t p) _ _ (turned r t₁ p₁ .0) (turned r t₁ p₁ .1) (turn-positive job a b t p) says
 
-pub product-exact : (x y : Size) (w : ℕ) (a b t p : List ℕ) (r : Answer) (o : List ℕ × List ℕ) → (number r, o) ≡ productMeans x y w a b t p
+pub product-exact : (x y : Size) (w : ℕ) (a b t p : List ℕ) (r : Answer) (o : List ℕ × List ℕ) → (word r, o) ≡ productMeans x y w a b t p
     → Exact {S = List ℕ × List ℕ} (openingTests x y w a b (length t) (length p)) (t, p)
-    (encode (2 ^ meant w) (y .columns) (endOf x y (meant w) a b .table), encode (x .rows) (y .columns) (endOf x y (meant w) a b .product)) (number r) o
+    (encode (2 ^ meant w) (y .columns) (endOf x y (meant w) a b .table), encode (x .rows) (y .columns) (endOf x y (meant w) a b .product)) (word r) o
 unfolding productMeans openingTests faults
-product-exact x y w a b t p r o says = exact (openingTests x y w a b (length t) (length p)) _ _ (number r) o tt says
+product-exact x y w a b t p r o says = exact (openingTests x y w a b (length t) (length p)) _ _ (word r) o (pair-positive First Second x y a b) says

@@ -15,7 +15,7 @@ use Rattle.buffers.proofs.SizeLaws.{cell-lt}
 use Rattle.buffers.proofs.BufferLaws.{tests-legal, cell-encode, encode-legal, encode-within}
 use Rattle.requests.specs.declared.Size.{Size}
 use Rattle.requests.specs.declared.Answer.{Answer}
-use Rattle.requests.specs.Answers.{number, first}
+use Rattle.requests.specs.Answers.{word, first}
 use Rattle.requests.specs.Faults.{faults}
 use Rattle.requests.proofs.SizeLaws.{not-over, not-unfit}
 use Rattle.requests.proofs.AnswerLaws.{none-first, finished, done-makes}
@@ -32,10 +32,12 @@ use Rattle.steps.proofs.Same.{SameState}
 use Rattle.steps.proofs.Turns.{made-done, after-all, turn-same, turns-from-start}
 use Rattle.walk.specs.Ran.{found}
 use Rattle.matrix.specs.declared.job.Job.{Job}
+use Rattle.matrix.specs.declared.opening.Opened.the-variants as an-opening
+use Rattle.matrix.specs.declared.turn.Turned.the-variants as a-turn
 use Rattle.matrix.specs.Job.{meant, tableSize, productSize, totalOf}
 use Rattle.matrix.specs.Misfit.{misfit}
-use Rattle.matrix.specs.Opening.{openingTests, newJob, openedOf, openingMeans}
-use Rattle.matrix.specs.Turn.{sizeA, sizeB, foundTests, turnTests, turnedOf, turnMeans}
+use Rattle.matrix.specs.Opening.{opened, openingTests, newJob, openedOf, openingMeans}
+use Rattle.matrix.specs.Turn.{turned, sizeA, sizeB, foundTests, turnTests, turnedOf, turnMeans}
 use Rattle.matrix.specs.Stands.{stateAt, jobAt, Stands}
 use Rattle.matrix.specs.Product.{endOf, productMeans}
 use Rattle.matrix.proofs.JobLaws.{meant-pos, meant-le, Fitting, opening-ready, turn-none}
@@ -46,11 +48,9 @@ Held = Job × (List ℕ × List ℕ)
 
 -- an accepted turn, which is handed the record last answered and the same matrices, table and product
 pub record Accepted (a b : List ℕ) (budget : ℕ) (s s₁ : Held) : Type 0 where
-  pub answer : Answer
   pub made : ℕ
   pub ended : Bool
-  pub says : (number answer, (s₁ .0, (made, (ended, s₁ .1)))) ≡ turnMeans (s .0) a b (s .1 .0) (s .1 .1) budget
-  pub done : number answer ≡ 0
+  pub says : turned (a-turn.Done (s₁ .0) made ended) (s₁ .1 .0) (s₁ .1 .1) ≡ turnMeans (s .0) a b (s .1 .0) (s .1 .1) budget
 
 module _ (x y : Size) (w : ℕ) (a b : List ℕ) (hm : x .rows ≤ 1024) (hl : x .columns ≤ 1024) (hn : y .columns ≤ 1024) (hw : w ≤ 8) (LA : Legal (x .rows) (x .columns) a) (LB : Legal (x .columns) (y .columns) b) where
   abbrev m : ℕ
@@ -169,8 +169,8 @@ module _ (x y : Size) (w : ℕ) (a b : List ℕ) (hm : x .rows ≤ 1024) (hl : x
   Stand d s = At d (s .0) (s .1 .0) (s .1 .1)
 
   -- a turn is accepted, and leaves the job standing further on
-  pub turn-on : (d budget : ℕ) (job : Job) (t p : List ℕ) (r : Answer) (job₁ : Job) (n : ℕ) (ended : Bool) (t₁ p₁ : List ℕ) → d ≤ long → At d job t p
-      → (number r, (job₁, (n, (ended, (t₁, p₁))))) ≡ turnMeans job a b t p budget → (number r ≡ 0) × At (next d budget) job₁ t₁ p₁
+  pub turn-on : (d budget : ℕ) (job : Job) (t p : List ℕ) (r : ℕ) (job₁ : Job) (n : ℕ) (ended : Bool) (t₁ p₁ : List ℕ) → d ≤ long → At d job t p
+      → (r, (job₁, (n, (ended, (t₁, p₁))))) ≡ turnMeans job a b t p budget → (r ≡ 0) × At (next d budget) job₁ t₁ p₁
   unfolding Outcome
   turn-on d budget job t p r job₁ n ended t₁ p₁ h S says =
       let e = says ∙ meaning d budget job t p S ∙ turn-at d budget h in (
@@ -183,8 +183,8 @@ module _ (x y : Size) (w : ℕ) (a b : List ℕ) (hm : x .rows ≤ 1024) (hl : x
       )
 
   one-turn : (d budget : ℕ) (s s₁ : Held) → d ≤ long → Stand d s → Accepted a b budget s s₁ → Stand (next d budget) s₁
-  one-turn d budget s s₁ h S turned =
-      turn-on d budget (s .0) (s .1 .0) (s .1 .1) (turned .answer) (s₁ .0) (turned .made) (turned .ended) (s₁ .1 .0) (s₁ .1 .1) h S (turned .says) .1
+  one-turn d budget s s₁ h S given =
+      turn-on d budget (s .0) (s .1 .0) (s .1 .1) 0 (s₁ .0) (given .made) (given .ended) (s₁ .1 .0) (s₁ .1 .1) h S (given .says) .1
 
   pub turns-at : (budgets : List ℕ) (s s₁ : Held) → Stand 0 s → Given (Accepted a b) s budgets s₁ → Stand (min (allBudgets budgets) long) s₁
   turns-at = turns-from-start (Accepted a b) Stand long one-turn
@@ -227,13 +227,13 @@ module _ (x y : Size) (w : ℕ) (a b : List ℕ) (hm : x .rows ≤ 1024) (hl : x
 
 -- ---- the demand, from an opening on
 
-module _ (x y : Size) (w : ℕ) (a b t p : List ℕ) (r : Answer) (job₀ : Job) (t₀ p₀ : List ℕ) (opened : (number r, (job₀, (t₀, p₀))) ≡ openingMeans x y w a b t p) (ok : number r ≡ 0) where
+module _ (x y : Size) (w : ℕ) (a b t p : List ℕ) (job₀ : Job) (t₀ p₀ : List ℕ) (says : opened (an-opening.Done job₀) t₀ p₀ ≡ openingMeans x y w a b t p) where
   Left : Type 0
   Left = ℕ × (Job × (List ℕ × List ℕ))
 
   as-new : (first (openingTests x y w a b (length t) (length p)) ≡ 0) × ((job₀, (t₀, p₀)) ≡ openedOf x y w)
   unfolding openingMeans
-  as-new = done-makes (openingTests x y w a b (length t) (length p)) _ (openedOf x y w) (job₀, (t₀, p₀)) (rw ok at opened)
+  as-new = done-makes (openingTests x y w a b (length t) (length p)) _ (openedOf x y w) (job₀, (t₀, p₀)) says
 
   pub facts : Fitting x y w a b (length t) (length p)
   facts = opening-ready x y w a b (length t) (length p) (as-new .0)
@@ -280,7 +280,7 @@ module _ (x y : Size) (w : ℕ) (a b t p : List ℕ) (r : Answer) (job₀ : Job)
 
 -- ---- the whole product as one request
 
-pub product-end : (x y : Size) (w : ℕ) (a b t p : List ℕ) (r : Answer) (t₁ p₁ : List ℕ) → (number r, (t₁, p₁)) ≡ productMeans x y w a b t p → number r ≡ 0
+pub product-end : (x y : Size) (w : ℕ) (a b t p : List ℕ) (r : Answer) (t₁ p₁ : List ℕ) → (word r, (t₁, p₁)) ≡ productMeans x y w a b t p → word r ≡ 0
     → p₁ ≡ encode (x .rows) (y .columns) (schoolbook (x .columns) (cell (x .columns) a) (cell (y .columns) b))
 unfolding productMeans endOf
 product-end x y w a b t p r t₁ p₁ says ok =
@@ -290,7 +290,7 @@ product-end x y w a b t p r t₁ p₁ says ok =
 
 -- so it is equal for every width
 pub widths-agree : (x y : Size) (w w′ : ℕ) (a b t p t′ p′ : List ℕ) (r r′ : Answer) (t₁ p₁ t₂ p₂ : List ℕ)
-    → (number r, (t₁, p₁)) ≡ productMeans x y w a b t p → number r ≡ 0 → (number r′, (t₂, p₂)) ≡ productMeans x y w′ a b t′ p′ → number r′ ≡ 0 → p₁ ≡ p₂
+    → (word r, (t₁, p₁)) ≡ productMeans x y w a b t p → word r ≡ 0 → (word r′, (t₂, p₂)) ≡ productMeans x y w′ a b t′ p′ → word r′ ≡ 0 → p₁ ≡ p₂
 widths-agree x y w w′ a b t p t′ p′ r r′ t₁ p₁ t₂ p₂ says ok says′ ok′ =
     product-end x y w a b t p r t₁ p₁ says ok ∙ sym (product-end x y w′ a b t′ p′ r′ t₂ p₂ says′ ok′)
 
@@ -301,10 +301,8 @@ pub record Ended (x y : Size) (a b p : List ℕ) : Type 0 where
   pub width : ℕ
   pub table : List ℕ
   pub product : List ℕ
-  pub answer : Answer
   pub held : Held
-  pub opened : (number answer, held) ≡ openingMeans x y width a b table product
-  pub done : number answer ≡ 0
+  pub says : opened (an-opening.Done (held .0)) (held .1 .0) (held .1 .1) ≡ openingMeans x y width a b table product
   pub budgets : List ℕ
   pub last : Job
   pub last-table : List ℕ
@@ -313,7 +311,7 @@ pub record Ended (x y : Size) (a b p : List ℕ) : Type 0 where
 
 ended-right : (x y : Size) (a b p : List ℕ) → Ended x y a b p → p ≡ encode (x .rows) (y .columns) (schoolbook (x .columns) (cell (x .columns) a) (cell (y .columns) b))
 ended-right x y a b p E =
-    demand-3-end x y (E .width) a b (E .table) (E .product) (E .answer) (E .held .0) (E .held .1 .0) (E .held .1 .1) (E .opened) (E .done) (E .budgets) (E .last) (E .last-table) p (E .given) (E .reached)
+    demand-3-end x y (E .width) a b (E .table) (E .product) (E .held .0) (E .held .1 .0) (E .held .1 .1) (E .says) (E .budgets) (E .last) (E .last-table) p (E .given) (E .reached)
 
 -- their products are equal, whatever the widths and the budgets
 pub jobs-agree : (x y : Size) (a b p p′ : List ℕ) → Ended x y a b p → Ended x y a b p′ → p ≡ p′

@@ -4,17 +4,17 @@
 use mathlib.Core.Path.{_≡_, refl, ap}
 use mathlib.Core.Bool.{Bool, true, false}
 use mathlib.Core.List.{List, [], _∷_}
-use Prim.Native.Nat.{ℕ}
+use Prim.Native.Nat.{ℕ, _+_, _^_}
 use native.Mathlib.Omega.{arith}
 use lib.ListN.{getD}
-use Rattle.cells.specs.Any.{any}
+use Rattle.cells.specs.Any.{any, least}
 use Rattle.cells.specs.Bit.{bit, wordOf}
 use Rattle.cells.specs.Counts.{sum, is}
 use Rattle.cells.specs.Digit.{add3, sub3, neg3, mul3, unitOf, signOf}
 use Rattle.buffers.specs.Buffer.{planes, wide, words, bitAt, unit, sign, cell, tab, joined, plane, encode}
-use Rattle.buffers.specs.Fault.{stray, padded}
+use Rattle.buffers.specs.Fault.{stray, padded, strayAt, paddedAt}
 use Rattle.requests.specs.declared.Size.{Size}
-use Rattle.requests.specs.Answers.{number, first, left, answered}
+use Rattle.requests.specs.Answers.{placed, word, first, left, answered}
 use Rattle.requests.specs.Sizes.{over, unfit}
 use Rattle.requests.specs.Faults.{faults}
 use Rattle.requests.specs.Single.{singleTests}
@@ -52,7 +52,7 @@ abbrev padded1 : List ℕ
 padded1 = 2 ∷ 0 ∷ []
 
 pub record Sums : Type 0 where
-  pub checked : (checkMeans one one1 ≡ 0) × (checkMeans one stray1 ≡ 5) × (checkMeans one padded1 ≡ 6)
+  pub checked : (checkMeans one one1 ≡ 0) × (checkMeans one stray1 ≡ 5 + 2 ^ 8) × (checkMeans one padded1 ≡ 6 + 2 ^ 8 + 2 ^ 32)
   pub added : (sumMeans one one one1 one1 zero1 ≡ (0, two1)) × (sumMeans one one one1 two1 zero1 ≡ (0, zero1)) × (sumMeans one one two1 two1 zero1 ≡ (0, one1))
   pub subtracted : (differenceMeans one one zero1 one1 zero1 ≡ (0, two1)) × (differenceMeans one one two1 one1 zero1 ≡ (0, one1))
   pub negated : (negationMeans one one1 zero1 ≡ (0, two1)) × (negationMeans one two1 zero1 ≡ (0, one1))
@@ -63,7 +63,7 @@ pub record Sums : Type 0 where
   pub tallied : (tallyMeans 1 one1 ≡ (0, (0 ∷ 1 ∷ 0 ∷ [], false))) × (tallyMeans 1 zero1 ≡ (0, (1 ∷ 0 ∷ 0 ∷ [], true)))
 
 pub sums : Sums
-unfolding checkMeans checkTests sumMeans sumOf differenceMeans differenceOf negationMeans negationOf scalingMeans scalingTests scalingOf transposeMeans transposeOf packMeans packTests packOf unpackMeans unpackTests unpackOf tallyMeans tallyRow columnsWith answered first left pairTests singleTests over unequal unfits unfit unlike faults stray padded any unit sign cell bitAt bit planes wide words encode joined plane tab wordOf unitOf signOf add3 sub3 neg3 mul3 byteAt bytes sum is
+unfolding checkMeans checkTests sumMeans sumOf differenceMeans differenceOf negationMeans negationOf scalingMeans scalingTests scalingOf transposeMeans transposeOf packMeans packTests packOf unpackMeans unpackTests unpackOf tallyMeans tallyRow columnsWith answered first left pairTests singleTests over unequal unfits unfit unlike faults placed stray padded strayAt paddedAt any least unit sign cell bitAt bit planes wide words encode joined plane tab wordOf unitOf signOf add3 sub3 neg3 mul3 byteAt bytes sum is
 sums = record {
   checked = (refl, refl, refl);
   added = (refl, refl, refl);
@@ -89,29 +89,29 @@ two-zero e = let z : _≡_ {A = ℕ} 1 0 = ap (λ (l : List ℕ). getD l 0 0) e 
 tallies-differ : _≡_ {A = List ℕ × Bool} (0 ∷ 1 ∷ 0 ∷ [], false) (1 ∷ 0 ∷ 0 ∷ [], true) → ⊥
 tallies-differ e = let z : _≡_ {A = ℕ} 0 1 = ap (λ (v : List ℕ × Bool). getD (v .0) 0 0) e in omega arith
 
-pub sum-shown-out : ShownOut {X = Size × Size × List ℕ × List ℕ} {I = List ℕ} {S = List ℕ} number (λ x b. sumMeans (x .0) (x .1) (x .2) b (x .3))
-sum-shown-out = shown-out number _ (one, one, one1, zero1) one1 two1 two1 zero1 (sums .added .0) (sums .added .1) two-zero
+pub sum-shown-out : ShownOut {X = Size × Size × List ℕ × List ℕ} {I = List ℕ} {S = List ℕ} word (λ x b. sumMeans (x .0) (x .1) (x .2) b (x .3))
+sum-shown-out = shown-out word _ (one, one, one1, zero1) one1 two1 two1 zero1 (sums .added .0) (sums .added .1) two-zero
 
-pub difference-shown-out : ShownOut {X = Size × Size × List ℕ × List ℕ} {I = List ℕ} {S = List ℕ} number (λ x a. differenceMeans (x .0) (x .1) a (x .2) (x .3))
-difference-shown-out = shown-out number _ (one, one, one1, zero1) zero1 two1 two1 one1 (sums .subtracted .0) (sums .subtracted .1) two-one
+pub difference-shown-out : ShownOut {X = Size × Size × List ℕ × List ℕ} {I = List ℕ} {S = List ℕ} word (λ x a. differenceMeans (x .0) (x .1) a (x .2) (x .3))
+difference-shown-out = shown-out word _ (one, one, one1, zero1) zero1 two1 two1 one1 (sums .subtracted .0) (sums .subtracted .1) two-one
 
-pub negation-shown-out : ShownOut {X = Size × List ℕ} {I = List ℕ} {S = List ℕ} number (λ x a. negationMeans (x .0) a (x .1))
-negation-shown-out = shown-out number _ (one, zero1) one1 two1 two1 one1 (sums .negated .0) (sums .negated .1) two-one
+pub negation-shown-out : ShownOut {X = Size × List ℕ} {I = List ℕ} {S = List ℕ} word (λ x a. negationMeans (x .0) a (x .1))
+negation-shown-out = shown-out word _ (one, zero1) one1 two1 two1 one1 (sums .negated .0) (sums .negated .1) two-one
 
-pub scaling-shown-out : ShownOut {X = Size × ℕ × List ℕ} {I = List ℕ} {S = List ℕ} number (λ x a. scalingMeans (x .0) (x .1) a (x .2))
-scaling-shown-out = shown-out number _ (one, 2, zero1) one1 two1 two1 one1 (sums .scaled .0) (sums .scaled .1) two-one
+pub scaling-shown-out : ShownOut {X = Size × ℕ × List ℕ} {I = List ℕ} {S = List ℕ} word (λ x a. scalingMeans (x .0) (x .1) a (x .2))
+scaling-shown-out = shown-out word _ (one, 2, zero1) one1 two1 two1 one1 (sums .scaled .0) (sums .scaled .1) two-one
 
-pub transpose-shown-out : ShownOut {X = Size × List ℕ} {I = List ℕ} {S = List ℕ} number (λ x a. transposeMeans (x .0) a (x .1))
-transpose-shown-out = shown-out number _ (one, zero1) two1 one1 two1 one1 (sums .transposed .0) (sums .transposed .1) two-one
+pub transpose-shown-out : ShownOut {X = Size × List ℕ} {I = List ℕ} {S = List ℕ} word (λ x a. transposeMeans (x .0) a (x .1))
+transpose-shown-out = shown-out word _ (one, zero1) two1 one1 two1 one1 (sums .transposed .0) (sums .transposed .1) two-one
 
-pub pack-shown-out : ShownOut {X = Size × List ℕ} {I = List ℕ} {S = List ℕ} number (λ x a. packMeans (x .0) a (x .1))
-pack-shown-out = shown-out number _ (one, zero1) (2 ∷ []) (1 ∷ []) two1 one1 (sums .packed .0) (sums .packed .1) two-one
+pub pack-shown-out : ShownOut {X = Size × List ℕ} {I = List ℕ} {S = List ℕ} word (λ x a. packMeans (x .0) a (x .1))
+pack-shown-out = shown-out word _ (one, zero1) (2 ∷ []) (1 ∷ []) two1 one1 (sums .packed .0) (sums .packed .1) two-one
 
-pub unpack-shown-out : ShownOut {X = Size × List ℕ} {I = List ℕ} {S = List ℕ} number (λ x a. unpackMeans (x .0) a (x .1))
-unpack-shown-out = shown-out number _ (one, 0 ∷ []) two1 one1 (2 ∷ []) (1 ∷ []) (sums .unpacked .0) (sums .unpacked .1) byte-two-one
+pub unpack-shown-out : ShownOut {X = Size × List ℕ} {I = List ℕ} {S = List ℕ} word (λ x a. unpackMeans (x .0) a (x .1))
+unpack-shown-out = shown-out word _ (one, 0 ∷ []) two1 one1 (2 ∷ []) (1 ∷ []) (sums .unpacked .0) (sums .unpacked .1) byte-two-one
 
-pub tally-shown-out : ShownOut {X = ℕ} {I = List ℕ} {S = List ℕ × Bool} number tallyMeans
-tally-shown-out = shown-out number _ 1 one1 zero1 (0 ∷ 1 ∷ 0 ∷ [], false) (1 ∷ 0 ∷ 0 ∷ [], true) (sums .tallied .0) (sums .tallied .1) tallies-differ
+pub tally-shown-out : ShownOut {X = ℕ} {I = List ℕ} {S = List ℕ × Bool} word tallyMeans
+tally-shown-out = shown-out word _ 1 one1 zero1 (0 ∷ 1 ∷ 0 ∷ [], false) (1 ∷ 0 ∷ 0 ∷ [], true) (sums .tallied .0) (sums .tallied .1) tallies-differ
 
-pub check-shown-out : AnswerShownOut {X = Size} {I = List ℕ} number checkMeans
-check-shown-out = answer-shown-out number checkMeans one one1 stray1 5 (sums .checked .0) (sums .checked .1) (λ e. omega arith)
+pub check-shown-out : AnswerShownOut {X = Size} {I = List ℕ} word checkMeans
+check-shown-out = answer-shown-out word checkMeans one one1 stray1 (5 + 2 ^ 8) (sums .checked .0) (sums .checked .1) (λ e. omega arith)

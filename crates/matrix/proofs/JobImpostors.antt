@@ -17,7 +17,7 @@ use Rattle.buffers.specs.Buffer.{planes, wide, words, bitAt, unit, sign, cell, 
 use Rattle.buffers.specs.Fault.{stray, padded}
 use Rattle.requests.specs.declared.Size.{Size}
 use Rattle.requests.specs.declared.Answer.{Answer}
-use Rattle.requests.specs.Answers.{number, first, left, answered}
+use Rattle.requests.specs.Answers.{word, first, left, answered}
 use Rattle.requests.specs.Sizes.{over, unfit}
 use Rattle.requests.specs.Faults.{faults}
 use Rattle.requests.proofs.ShownOut.{ShownOut, shown-out}
@@ -27,13 +27,15 @@ use Rattle.steps.specs.Count.{quote, total}
 use Rattle.steps.specs.Turn.{due, made, turn}
 use Rattle.walk.specs.Ran.{found}
 use Rattle.matrix.specs.declared.job.Job.{Job}
+use Rattle.matrix.specs.declared.turn.Turned.{Turned}
 use Rattle.matrix.specs.Job.{meant}
 use Rattle.matrix.specs.Misfit.{misfit}
 use Rattle.matrix.specs.Quote.{quoteTests, quoteMeans}
 use Rattle.matrix.specs.Total.{totalTests, totalMeans}
 use Rattle.matrix.specs.Opening.{openingTests, openingMeans}
 use Rattle.matrix.specs.Product.{endOf, productMeans}
-use Rattle.matrix.specs.Turn.{foundTests, turnTests, turnedOf, turnMeans}
+use Rattle.matrix.specs.Turn.{foundTests, turnTests, turned, turnedOf, turnMeans}
+use Rattle.matrix.proofs.Outcomes.{turned-left}
 
 abbrev one : Size
 one = record { rows = 1; columns = 1 }
@@ -97,20 +99,22 @@ one-zero e = let z : _≡_ {A = ℕ} 1 0 = ap (λ (l : List ℕ). getD l 0 0) e 
 
 -- ---- turns
 
--- a turn that answers as its statement says
-module _ (f : Handed → Answer × Left) (meets : (h : Handed) → (number (f h .0), f h .1) ≡ means h) where
-  -- table and product that f leaves
+-- a turn that answers as its statement says, with the table and the product that it leaves
+module _ (f : Handed → Turned × List ℕ × List ℕ) (meets : (h : Handed) → turned (f h .0) (f h .1) (f h .2) ≡ means h) where
   abbrev tableLeft : Handed → List ℕ
-  tableLeft h = f h .1 .1 .1 .1 .0
+  tableLeft h = f h .1
 
   abbrev productLeft : Handed → List ℕ
-  productLeft h = f h .1 .1 .1 .1 .1
+  productLeft h = f h .2
+
+  buffers-are : (h : Handed) (o : Left) → means h ≡ (0, o) → (tableLeft h, productLeft h) ≡ o .1 .1 .1
+  buffers-are h o says = sym (turned-left (f h .0) (f h .1) (f h .2)) ∙ ap (λ (v : ℕ × Left). v .1 .1 .1 .1) (meets h ∙ says)
 
   product-is : (h : Handed) (o : Left) → means h ≡ (0, o) → productLeft h ≡ o .1 .1 .1 .1
-  product-is h o says = ap (λ (v : ℕ × Left). v .1 .1 .1 .1 .1) (meets h ∙ says)
+  product-is h o says = ap (λ (v : List ℕ × List ℕ). v .1) (buffers-are h o says)
 
   table-is : (h : Handed) (o : Left) → means h ≡ (0, o) → tableLeft h ≡ o .1 .1 .1 .0
-  table-is h o says = ap (λ (v : ℕ × Left). v .1 .1 .1 .1 .0) (meets h ∙ says)
+  table-is h o says = ap (λ (v : List ℕ × List ℕ). v .0) (buffers-are h o says)
 
   -- it does not only move the record: it writes the table, and it writes the product
   pub writes-table : ((h : Handed) → tableLeft h ≡ h .3) → ⊥
@@ -129,7 +133,7 @@ module _ (f : Handed → Answer × Left) (meets : (h : Handed) → (number (f h 
 
 -- ---- totals
 
-module _ (f : Size → ℕ → List ℕ → Answer × ℕ) (meets : (x : Size) (w : ℕ) (a : List ℕ) → (number (f x w a .0), f x w a .1) ≡ totalMeans x w a) where
+module _ (f : Size → ℕ → List ℕ → Answer × ℕ) (meets : (x : Size) (w : ℕ) (a : List ℕ) → (word (f x w a .0), f x w a .1) ≡ totalMeans x w a) where
   steps-is : (a : List ℕ) (n : ℕ) → totalMeans one 1 a ≡ (0, n) → f one 1 a .1 ≡ n
   steps-is a n says = ap (λ (v : ℕ × ℕ). v .1) (meets one 1 a ∙ says)
 
@@ -146,25 +150,26 @@ module _ (f : Size → ℕ → List ℕ → Answer × ℕ) (meets : (x : Size) (
 
 -- ---- refusing everything, and a fixed answer
 
-pub quote-shown-out : ShownOut {X = ℕ} {I = Size} {S = ℕ} number (λ w x. quoteMeans x w)
-quote-shown-out = shown-out number _ 1 one none 2 0 (sums .quoted .0) (sums .quoted .1) (λ e. omega arith)
+pub quote-shown-out : ShownOut {X = ℕ} {I = Size} {S = ℕ} word (λ w x. quoteMeans x w)
+quote-shown-out = shown-out word _ 1 one none 2 0 (sums .quoted .0) (sums .quoted .1) (λ e. omega arith)
 
-pub total-shown-out : ShownOut {X = Size × ℕ} {I = List ℕ} {S = ℕ} number (λ x a. totalMeans (x .0) (x .1) a)
-total-shown-out = shown-out number _ (one, 1) zero1 one1 1 2 (sums .totals .0) (sums .totals .1) (λ e. omega arith)
+pub total-shown-out : ShownOut {X = Size × ℕ} {I = List ℕ} {S = ℕ} word (λ x a. totalMeans (x .0) (x .1) a)
+total-shown-out = shown-out word _ (one, 1) zero1 one1 1 2 (sums .totals .0) (sums .totals .1) (λ e. omega arith)
 
-pub opening-shown-out : ShownOut {X = Size × Size × List ℕ × List ℕ × List ℕ × List ℕ} {I = ℕ} {S = Job × (List ℕ × List ℕ)} number
+-- an opening and a turn answer by a word and what goes with it, as `opened` and `turned` read them off their enums
+pub opening-shown-out : ShownOut {X = Size × Size × List ℕ × List ℕ × List ℕ × List ℕ} {I = ℕ} {S = Job × (List ℕ × List ℕ)} (λ (n : ℕ). n)
     (λ x w. openingMeans (x .0) (x .1) w (x .2) (x .3) (x .4) (x .5))
 opening-shown-out =
-    shown-out number _ (none, none, [], [], [], []) 1 2 (emptyJob 1, ([], [])) (emptyJob 2, ([], [])) (sums .opened-at .0) (sums .opened-at .1)
+    shown-out (λ (n : ℕ). n) _ (none, none, [], [], [], []) 1 2 (emptyJob 1, ([], [])) (emptyJob 2, ([], [])) (sums .opened-at .0) (sums .opened-at .1)
     (λ e. let z : _≡_ {A = ℕ} 1 2 = ap (λ (o : Job × (List ℕ × List ℕ)). o .0 .width) e in omega arith)
 
-pub turn-shown-out : ShownOut {X = Job × List ℕ × List ℕ × List ℕ × ℕ} {I = List ℕ} {S = Left} number (λ x a. turnMeans (x .0) a (x .1) (x .2) (x .3) (x .4))
+pub turn-shown-out : ShownOut {X = Job × List ℕ × List ℕ × List ℕ × ℕ} {I = List ℕ} {S = Left} (λ (n : ℕ). n) (λ x a. turnMeans (x .0) a (x .1) (x .2) (x .3) (x .4))
 turn-shown-out =
-    shown-out number _ (job 0, one1, newTable, zero1, 2) one1 zero1 (job 2, (2, (true, (madeTable, one1)))) (job 1, (1, (true, (madeTable, zero1)))) (sums .both-steps) (sums .zero-cell)
+    shown-out (λ (n : ℕ). n) _ (job 0, one1, newTable, zero1, 2) one1 zero1 (job 2, (2, (true, (madeTable, one1)))) (job 1, (1, (true, (madeTable, zero1)))) (sums .both-steps) (sums .zero-cell)
     (λ e. one-zero (ap (λ (o : Left). o .1 .1 .1 .1) e))
 
-pub product-shown-out : ShownOut {X = Size × Size × ℕ × List ℕ × List ℕ × List ℕ} {I = List ℕ} {S = List ℕ × List ℕ} number
+pub product-shown-out : ShownOut {X = Size × Size × ℕ × List ℕ × List ℕ × List ℕ} {I = List ℕ} {S = List ℕ × List ℕ} word
     (λ x a. productMeans (x .0) (x .1) (x .2) a (x .3) (x .4) (x .5))
 product-shown-out =
-    shown-out number _ (one, one, 1, one1, newTable, zero1) one1 zero1 (madeTable, one1) (madeTable, zero1) (sums .multiplied .0) (sums .multiplied .1)
+    shown-out word _ (one, one, 1, one1, newTable, zero1) one1 zero1 (madeTable, one1) (madeTable, zero1) (sums .multiplied .0) (sums .multiplied .1)
     (λ e. one-zero (ap (λ (o : List ℕ × List ℕ). o .1) e))

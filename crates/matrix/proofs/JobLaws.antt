@@ -16,10 +16,12 @@ use Rattle.buffers.proofs.BufferLaws.{legal-tests, cell-encode, encode-within, 
 use Rattle.requests.specs.declared.Size.{Size}
 use Rattle.requests.specs.Answers.{first}
 use Rattle.requests.specs.Sizes.{over, unfit}
-use Rattle.requests.specs.Faults.{faults}
+use Rattle.requests.specs.Faults.{faults, pairFaults}
 use Rattle.requests.proofs.SizeLaws.{over-rows, over-columns, unfit-long}
 use Rattle.requests.specs.Exact.{None}
-use Rattle.requests.proofs.AnswerLaws.{positive, first-none, append-given, append-none, here, later}
+use Rattle.requests.specs.declared.Buffer.the-variants.{First, Second, Third, Fourth}
+use Rattle.requests.proofs.PairLaws.{faults-positive, pair-positive}
+use Rattle.requests.proofs.AnswerLaws.{positive, positive-append, first-none, append-given, append-none, here, later}
 use Rattle.rows.specs.Row.{Written}
 use Rattle.cells.specs.Counts.{sum}
 use Rattle.steps.specs.Step.{Step, run, opening}
@@ -40,7 +42,7 @@ use Rattle.matrix.specs.Job.{meant, tableSize, productSize, totalOf}
 use Rattle.matrix.specs.Misfit.{misfit}
 use Rattle.matrix.specs.Total.{totalTests}
 use Rattle.matrix.specs.Opening.{openingTests}
-use Rattle.matrix.specs.Turn.{sizeA, sizeB, foundTests, lateTests, turnTests, stepsOf, madeOf, onJob, turnedOf}
+use Rattle.matrix.specs.Turn.{sizeA, sizeB, cellTests, foundTests, lateTests, turnTests, stepsOf, madeOf, onJob, turnedOf}
 
 pub meant-pos : (w : ℕ) → 0 < meant w
 unfolding meant
@@ -91,7 +93,7 @@ pub record Countable (x : Size) (w : ℕ) (a : List ℕ) : Type 0 where
 pub total-ready : (x : Size) (w : ℕ) (a : List ℕ) → first (totalTests x w a) ≡ 0 → Countable x w a
 unfolding totalTests faults
 total-ready x w a z =
-    let t : None (totalTests x w a) = first-none (totalTests x w a) tt z in
+    let t : None (totalTests x w a) = first-none (totalTests x w a) (faults-positive First x a) z in
     record {
       rows = over-rows x (t .0);
       columns = over-columns x (t .0);
@@ -112,7 +114,7 @@ pub record Fitting (x y : Size) (w : ℕ) (a b : List ℕ) (t p : ℕ) : Type 0 
 pub opening-ready : (x y : Size) (w : ℕ) (a b : List ℕ) (t p : ℕ) → first (openingTests x y w a b t p) ≡ 0 → Fitting x y w a b t p
 unfolding openingTests faults
 opening-ready x y w a b t p z =
-    let h : None (openingTests x y w a b t p) = first-none (openingTests x y w a b t p) tt z in
+    let h : None (openingTests x y w a b t p) = first-none (openingTests x y w a b t p) (pair-positive First Second x y a b) z in
     let small-x = or-left (over x) (over y) (h .0) in
     let small-y = or-right (over x) (over y) (h .0) in
     let same : x .columns ≡ y .rows = eqb-true _ _ (not-false (eqb (x .columns) (y .rows)) (h .1 .0)) in
@@ -129,6 +131,19 @@ opening-ready x y w a b t p z =
       product = unfit-long (productSize x y) p (fit-product x y (meant w) (length a) (length b) t p lengths);
     }
 
+pub cell-positive : (job : Job) (a b t p : List ℕ) → T (positive (cellTests job a b t p))
+cell-positive job a b t p =
+    positive-append (pairFaults First Second (sizeA job) (sizeB job) a b) (pairFaults Third Fourth (tableSize (sizeB job) (job .width)) (productSize (sizeA job) (sizeB job)) t p)
+    (pair-positive First Second (sizeA job) (sizeB job) a b) (pair-positive Third Fourth (tableSize (sizeB job) (job .width)) (productSize (sizeA job) (sizeB job)) t p)
+
+pub found-positive : (job : Job) (a b t p : List ℕ) → T (positive (foundTests job a b t p))
+unfolding foundTests
+found-positive job a b t p = cell-positive job a b t p
+
+pub turn-positive : (job : Job) (a b t p : List ℕ) → T (positive (turnTests job a b t p))
+unfolding turnTests
+turn-positive job a b t p = positive-append (foundTests job a b t p) (lateTests job a) (found-positive job a b t p) tt
+
 pub record Ready (job : Job) (a b t p : List ℕ) : Type 0 where
   pub m : job .m ≤ 1024
   pub l : job .l ≤ 1024
@@ -143,7 +158,7 @@ pub record Ready (job : Job) (a b t p : List ℕ) : Type 0 where
 pub standing-ready : (job : Job) (a b t p : List ℕ) → first (foundTests job a b t p) ≡ 0 → Ready job a b t p
 unfolding foundTests faults
 standing-ready job a b t p z =
-    let h : None (foundTests job a b t p) = first-none (foundTests job a b t p) tt z in
+    let h : None (foundTests job a b t p) = first-none (foundTests job a b t p) (found-positive job a b t p) z in
     let x : Size = sizeA job in
     let y : Size = sizeB job in
     let w : ℕ = job .width in
@@ -168,16 +183,6 @@ pub meant-some : (w : ℕ) → (w ≡ 0 → ⊥) → w ≡ meant w
 unfolding meant
 meant-some zero ne = absurd (ne refl)
 meant-some (suc w) ne = refl
-
--- ---- positive numbers alone stand in the lists
-
-pub found-positive : (job : Job) (a b t p : List ℕ) → T (positive (foundTests job a b t p))
-unfolding foundTests faults
-found-positive job a b t p = tt
-
-pub pair-positive : (x y : Size) (a b : List ℕ) → T (positive (faults x a ++ faults y b))
-unfolding faults
-pair-positive x y a b = tt
 
 -- ---- zero in a buffer
 

@@ -1,28 +1,31 @@
 -- The tests of `pack`, and the digits that it packs. Assumes nothing.
-use mathlib.Core.Path.{_≡_, refl, ap, _∙_}
-use mathlib.Core.Bool.{Bool, false, _||_}
+use mathlib.Core.Path.{_≡_, refl, sym, ap, _∙_}
+use mathlib.Core.Bool.{Bool, true, false, _||_}
 use mathlib.Core.List.{List}
-use Prim.Native.Nat.{ℕ, _+_, _-_, _*_, _≤_, _<_, min, max}
-use native.Mathlib.Nat.{mul-le-mul, mul-le-mul-right, suc-mul}
+use Prim.Native.Nat.{ℕ, zero, suc, _+_, _-_, _*_, _/_, _%_, _≤_, _<_, min, max}
+use native.Mathlib.Nat.{mul-le-mul, mul-le-mul-right, suc-mul, mul-zero, div-lt-iff-lt-mul, mod-lt, div-add-mod'}
 use native.Mathlib.Numerals.{add-one}
 use native.Mathlib.Decide.{decLt}
 use native.Mathlib.Omega.{arith}
-use lib.Dec.{ltb, eqb}
+use lib.Dec.{T, ltb, eqb}
 use lib.ListN.{length, getD, List·getD-eq-default}
 use borrow.Author.Tests.{ltb-false, lt-ltb, le-ltb, eqb-true, eq-eqb, not-false}
-use Rattle.cells.specs.Any.{any}
-use Rattle.cells.proofs.AnyLaws.{any-none, any-at, or-left, or-right}
+use Rattle.cells.specs.Any.{any, First}
+use Rattle.cells.proofs.AnyLaws.{any-none, any-next, any-at, or-left, or-right}
+use Rattle.cells.proofs.LeastLaws.{any-beyond, least-of, least-first}
 use Rattle.buffers.specs.Buffer.{planes, words, encode}
+use Rattle.buffers.specs.Fault.{FirstBad}
 use Rattle.requests.specs.declared.Size.{Size}
 use Rattle.requests.specs.Answers.{first}
 use Rattle.requests.specs.Sizes.{unfit}
 use Rattle.requests.proofs.SizeLaws.{over-rows, over-columns, not-over, unfit-long, not-unfit}
 use Rattle.requests.specs.Exact.{None}
-use Rattle.requests.proofs.AnswerLaws.{first-none}
+use Rattle.requests.proofs.WordLaws.{placed-positive}
+use Rattle.requests.proofs.AnswerLaws.{positive, first-none}
 use Rattle.rows.proofs.MatrixLaws.{RowsMade, rows-all}
 use Rattle.matrix.specs.Gathered.{upTo}
 use Rattle.matrix.specs.Unpacked.{byteAt, unlike}
-use Rattle.matrix.specs.Pack.{packTests}
+use Rattle.matrix.specs.Pack.{aboveFirst, aboveAt, packTests}
 use Rattle.matrix.proofs.GatherLaws.{up-in, up-out}
 
 pub cells-le : (r c : ℕ) → r ≤ 1024 → c ≤ 1024 → r * c ≤ 1048576
@@ -65,10 +68,14 @@ pub record Ready (s : Size) (cells : List ℕ) (n : ℕ) : Type 0 where
   pub room : n ≡ words (s .rows) (s .columns)
   pub small : (k : ℕ) → getD cells k 0 < 3
 
+pub pack-positive : (s : Size) (cells : List ℕ) (n : ℕ) → T (positive (packTests s cells n))
+unfolding packTests
+pack-positive s cells n = rw (placed-positive 8 _) tt
+
 pub ready : (s : Size) (cells : List ℕ) (n : ℕ) → first (packTests s cells n) ≡ 0 → Ready s cells n
 unfolding packTests
 ready s cells n z =
-    let t : None (packTests s cells n) = first-none (packTests s cells n) tt z in
+    let t : None (packTests s cells n) = first-none (packTests s cells n) (pack-positive s cells n) z in
     record {
       rows = over-rows s (t .0);
       columns = over-columns s (t .0);
@@ -101,3 +108,56 @@ packed-all q r c cells new e R =
     let a : i * c + 64 * p + t ≡ i * c + (64 * p + t) = omega arith in
     up-in (min 64 (c - 64 * p)) (λ t. getD cells (i * c + 64 * p + t) 0) t (omega arith) ∙ ap (λ (n : ℕ). getD cells n 0) a)
     (λ i p t h m k l. up-out (min 64 (c - 64 * p)) (λ t. getD cells (i * c + 64 * p + t) 0) t (omega arith)) R
+
+-- ---- the first digit above 2
+
+module _ (cells : List ℕ) where
+  abbrev above : ℕ → Bool
+  above k = ltb 2 (getD cells k 0)
+
+  pub above-begin : any 0 above ≡ false
+  unfolding any
+  above-begin = refl
+
+  pub above-next : (k : ℕ) → any k above ≡ false → getD cells k 0 < 3 → any (k + 1) above ≡ false
+  above-next k h l = any-next above k h (le-ltb 2 (getD cells k 0) (omega arith))
+
+  module _ (some : any (length cells) above ≡ true) where
+    pub above-beyond : (k : ℕ) → any k above ≡ false → k < length cells
+    above-beyond k h = any-beyond above (length cells) k some h
+
+    pub above-stop : (k : ℕ) → any k above ≡ false → 2 < getD cells k 0 → k ≡ aboveFirst cells
+    unfolding aboveFirst
+    above-stop k h l = sym (least-of above (length cells) k some (lt-ltb 2 (getD cells k 0) l) h)
+
+    pub above-within : First (length cells) above (aboveFirst cells)
+    unfolding aboveFirst
+    above-within = least-first above (length cells) some
+
+    -- .. is a place: cell k is in row k / c and column k % c
+    module _ (r c : ℕ) (long : length cells ≡ r * c) where
+      pub some-column : 0 < c
+      some-column = go c refl
+        where
+          go : (d : ℕ) → c ≡ d → 0 < d
+          go zero e = absurd (let z : length cells ≡ 0 = long ∙ ap (λ (d : ℕ). r * d) e ∙ mul-zero r in omega (arith, above-within .within))
+          go (suc d) e = omega arith
+
+      pub row-below : (k : ℕ) → k ≡ aboveFirst cells → k / c < r
+      row-below k e = div-lt-iff-lt-mul some-column .1 (omega (arith, e, long, above-within .within))
+
+      -- it is the first by row and then column
+      pub above-first : FirstBad r 0 c (λ i j. ltb 2 (byteAt c cells i j)) (aboveAt c cells)
+      unfolding aboveAt byteAt
+      above-first =
+          let k = aboveFirst cells in
+          let F = above-within in
+          let split : k / c * c + k % c ≡ k = div-add-mod' k c in
+          record {
+            row = row-below k refl;
+            begins = omega arith;
+            ends = mod-lt k some-column;
+            holds = rw split (F .holds);
+            above = λ i j l _ m. any-at above k (F .none) (i * c + j) (omega (arith, split, cells-in (k / c) c i l));
+            before = λ j _ l. any-at above k (F .none) (k / c * c + j) (omega (arith, split));
+          }

@@ -8,7 +8,7 @@ use Rattle.buffers.proofs.SizeLaws.{cell-lt}
 use Rattle.buffers.proofs.BufferLaws.{cell-encode, encode-cell, encode-legal, encode-within}
 use Rattle.requests.specs.declared.Size.{Size}
 use Rattle.requests.specs.declared.Answer.{Answer}
-use Rattle.requests.specs.Answers.{number}
+use Rattle.requests.specs.Answers.{word}
 use Rattle.requests.proofs.AnswerLaws.{none-first}
 use Rattle.matrix.specs.Unpacked.{byteAt}
 use Rattle.matrix.specs.Pack.{packOf, packMeans}
@@ -33,8 +33,8 @@ unpacked-packed r c cells long small =
 -- ---- the two requests, one after the other
 
 -- what was packed is unpacked, into any room of the right length: done, and the digits as they were
-pub pack-then-unpack : (s : Size) (cells out back : List ℕ) (r r′ : Answer) (o o′ : List ℕ) → (number r, o) ≡ packMeans s cells out → number r ≡ 0
-    → (number r′, o′) ≡ unpackMeans s o back → length back ≡ length cells → (number r′ ≡ 0) × (o′ ≡ cells)
+pub pack-then-unpack : (s : Size) (cells out back : List ℕ) (r r′ : Answer) (o o′ : List ℕ) → (word r, o) ≡ packMeans s cells out → word r ≡ 0
+    → (word r′, o′) ≡ unpackMeans s o back → length back ≡ length cells → (word r′ ≡ 0) × (o′ ≡ cells)
 unfolding packOf
 pack-then-unpack s cells out back r r′ o o′ says ok says′ room =
     let P = pack-exact s cells out r o says in
@@ -45,8 +45,8 @@ pack-then-unpack s cells out back r r′ o o′ says ok says′ room =
     (z, U .right z ∙ ap (unpackOf (s .rows) (s .columns)) (P .right ok) ∙ unpacked-packed (s .rows) (s .columns) cells (R .long) (R .small))
 
 -- what was unpacked is packed, into any room of the right length: done, and the words as they were
-pub unpack-then-pack : (s : Size) (a out back : List ℕ) (r r′ : Answer) (o o′ : List ℕ) → Words a → (number r, o) ≡ unpackMeans s a out → number r ≡ 0
-    → (number r′, o′) ≡ packMeans s o back → length back ≡ length a → (number r′ ≡ 0) × (o′ ≡ a)
+pub unpack-then-pack : (s : Size) (a out back : List ℕ) (r r′ : Answer) (o o′ : List ℕ) → Words a → (word r, o) ≡ unpackMeans s a out → word r ≡ 0
+    → (word r′, o′) ≡ packMeans s o back → length back ≡ length a → (word r′ ≡ 0) × (o′ ≡ a)
 unfolding unpackOf
 unpack-then-pack s a out back r r′ o o′ fits says ok says′ room =
     let U = unpack-exact s a out r o says in

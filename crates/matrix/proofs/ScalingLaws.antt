@@ -14,6 +14,8 @@ use Rattle.requests.specs.Sizes.{unfit}
 use Rattle.requests.specs.Faults.{faults}
 use Rattle.requests.proofs.SizeLaws.{over-rows, over-columns, unfit-long}
 use Rattle.requests.specs.Exact.{None}
+use Rattle.requests.specs.declared.Buffer.the-variants.{First}
+use Rattle.requests.proofs.PairLaws.{faults-positive}
 use Rattle.requests.proofs.AnswerLaws.{first-none}
 use Rattle.matrix.specs.Scaling.{scalingTests}
 
@@ -28,7 +30,7 @@ pub record Ready (s : Size) (d : ℕ) (a : List ℕ) (n : ℕ) : Type 0 where
 pub ready : (s : Size) (d : ℕ) (a : List ℕ) (n : ℕ) → first (scalingTests s d a n) ≡ 0 → Ready s d a n
 unfolding scalingTests faults
 ready s d a n z =
-    let t : None (scalingTests s d a n) = first-none (scalingTests s d a n) tt z in
+    let t : None (scalingTests s d a n) = first-none (scalingTests s d a n) (faults-positive First s a) z in
     let h : d ≤ 2 = ltb-false 2 d (t .1 .1 .0) in
     record {
       rows = over-rows s (t .0);

@@ -19,6 +19,8 @@ use Rattle.requests.specs.Sizes.{unfit}
 use Rattle.requests.specs.Faults.{faults}
 use Rattle.requests.proofs.SizeLaws.{over-rows, over-columns, not-over, unfit-long, not-unfit}
 use Rattle.requests.specs.Exact.{None}
+use Rattle.requests.specs.declared.Buffer.the-variants.{First}
+use Rattle.requests.proofs.PairLaws.{faults-positive}
 use Rattle.requests.proofs.AnswerLaws.{first-none}
 use Rattle.rows.specs.Row.{column, Written}
 use Rattle.rows.proofs.RowLaws.{written-none, written-more}
@@ -38,7 +40,7 @@ pub record Ready (s : Size) (a : List ℕ) (n : ℕ) : Type 0 where
 pub ready : (s : Size) (a : List ℕ) (n : ℕ) → first (unpackTests s a n) ≡ 0 → Ready s a n
 unfolding unpackTests faults
 ready s a n z =
-    let t : None (unpackTests s a n) = first-none (unpackTests s a n) tt z in
+    let t : None (unpackTests s a n) = first-none (unpackTests s a n) (faults-positive First s a) z in
     record {
       rows = over-rows s (t .0);
       columns = over-columns s (t .0);

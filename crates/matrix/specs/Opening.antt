@@ -6,10 +6,13 @@ use lib.Dec.{ltb}
 use lib.ListN.{length}
 use Rattle.buffers.specs.Buffer.{encode}
 use Rattle.requests.specs.declared.Size.{Size}
-use Rattle.requests.specs.Answers.{Tests, answered}
+use Rattle.requests.specs.declared.Buffer.the-variants.{First, Second}
+use Rattle.requests.specs.Answers.{Tests, reasonWord, answered}
 use Rattle.requests.specs.Sizes.{over}
 use Rattle.requests.specs.Faults.{pairFaults}
 use Rattle.matrix.specs.declared.job.Job.{Job}
+use Rattle.matrix.specs.declared.opening.Opened.{Opened}
+use Rattle.matrix.specs.declared.opening.Opened.the-variants.{Done, Refused}
 use Rattle.matrix.specs.Job.{meant, unmatched}
 use Rattle.matrix.specs.Misfit.{misfit}
 
@@ -19,10 +22,15 @@ sizeTests x y width a b t p = (over x || over y, 1) ∷ (unmatched x y, 2) ∷ (
 
 -- .. and cells
 unfoldable pub openingTests : Size → Size → ℕ → List ℕ → List ℕ → ℕ → ℕ → Tests
-openingTests x y width a b t p = sizeTests x y width a b t p ++ pairFaults x y a b
+openingTests x y width a b t p = sizeTests x y width a b t p ++ pairFaults First Second x y a b
 
 abbrev pub noJob : Job
 noJob = record { m = 0; l = 0; n = 0; width = 0; done = 0 }
+
+-- what an opening answers and leaves: its word and its record, and then table and product; refused, there is no record, and zeros stand for it
+abbrev pub opened : Opened → List ℕ → List ℕ → ℕ × (Job × (List ℕ × List ℕ))
+opened (Done job) t p = (0, (job, (t, p)))
+opened (Refused why) t p = (reasonWord why, (noJob, (t, p)))
 
 abbrev pub newJob : Size → Size → ℕ → Job
 newJob x y width = record { m = x .rows; l = x .columns; n = y .columns; width = meant width; done = 0 }

@@ -6,7 +6,8 @@ use lib.Dec.{ltb, eqb}
 use lib.ListN.{length}
 use Rattle.buffers.specs.Buffer.{cell, encode}
 use Rattle.requests.specs.declared.Size.{Size}
-use Rattle.requests.specs.Answers.{Tests, answered}
+use Rattle.requests.specs.declared.Buffer.the-variants.{First, Second, Third, Fourth}
+use Rattle.requests.specs.Answers.{Tests, reasonWord, answered}
 use Rattle.requests.specs.Sizes.{over}
 use Rattle.requests.specs.Faults.{pairFaults}
 use Rattle.steps.specs.Step.{Step}
@@ -14,6 +15,9 @@ use Rattle.steps.specs.StepList.{steps}
 use Rattle.steps.specs.Turn.{made, Place, turn}
 use Rattle.walk.specs.Ran.{found}
 use Rattle.matrix.specs.declared.job.Job.{Job}
+use Rattle.matrix.specs.declared.turn.Turned.{Turned}
+use Rattle.matrix.specs.declared.turn.Turned.the-variants.{Done, Refused}
+use Rattle.matrix.specs.Opening.{noJob}
 use Rattle.matrix.specs.Job.{unwide, tableSize, productSize, totalOf}
 use Rattle.matrix.specs.Misfit.{misfit}
 
@@ -25,7 +29,7 @@ sizeB job = record { rows = job .l; columns = job .n }
 
 -- the tests of the cells: A, B, table, product
 abbrev pub cellTests : Job → List ℕ → List ℕ → List ℕ → List ℕ → Tests
-cellTests job a b t p = pairFaults (sizeA job) (sizeB job) a b ++ pairFaults (tableSize (sizeB job) (job .width)) (productSize (sizeA job) (sizeB job)) t p
+cellTests job a b t p = pairFaults First Second (sizeA job) (sizeB job) a b ++ pairFaults Third Fourth (tableSize (sizeB job) (job .width)) (productSize (sizeA job) (sizeB job)) t p
 
 -- the tests of sizes, width, lengths and cells
 unfoldable pub foundTests : Job → List ℕ → List ℕ → List ℕ → List ℕ → Tests
@@ -57,6 +61,12 @@ leftOf job a b t p budget = turn (cell (job .n) b) (stepsOf job a) budget (recor
 abbrev pub onJob : Job → ℕ → Job
 onJob job done = record { m = job .m; l = job .l; n = job .n; width = job .width; done = done }
 
+-- what a turn answers and leaves: its word, its record, the steps made and whether the list is finished, and then table and product; refused, there
+-- is no record, and zeros and no stand for what is not there
+abbrev pub turned : Turned → List ℕ → List ℕ → ℕ × (Job × (ℕ × (Bool × (List ℕ × List ℕ))))
+turned (Done job steps finished) t p = (0, (job, (steps, (finished, (t, p)))))
+turned (Refused why) t p = (reasonWord why, (noJob, (0, (false, (t, p)))))
+
 -- the new record, the steps made, whether the list is finished, and then table and product
 unfoldable pub turnedOf : Job → List ℕ → List ℕ → List ℕ → List ℕ → ℕ → Job × (ℕ × (Bool × (List ℕ × List ℕ)))
 turnedOf job a b t p budget =
@@ -69,4 +79,4 @@ turnedOf job a b t p budget =
     )
 
 unfoldable pub turnMeans : Job → List ℕ → List ℕ → List ℕ → List ℕ → ℕ → ℕ × (Job × (ℕ × (Bool × (List ℕ × List ℕ))))
-turnMeans job a b t p budget = answered (turnTests job a b t p) (job, (0, (false, (t, p)))) (turnedOf job a b t p budget)
+turnMeans job a b t p budget = answered (turnTests job a b t p) (noJob, (0, (false, (t, p)))) (turnedOf job a b t p budget)

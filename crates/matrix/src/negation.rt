@@ -3,13 +3,13 @@ ghost use mathlib.Core.Path.{_≡_};
 ghost use Prim.Native.Nat.{_≤_};
 ghost use lib.ListN.{length};
 ghost use Rattle.buffers.specs.Buffer.{words, Legal};
-ghost use Rattle.requests.specs.Answers.{number};
+ghost use Rattle.requests.specs.Answers.{word};
 ghost use Rattle.matrix.specs.Negation.{negationOf, negationMeans};
 use buffers::planes::planes;
 use requests::Answer;
 use requests::Size;
-use requests::number;
 use requests::single::judged;
+use requests::word;
 
 fn negation_rows(r: usize, c: usize, a: &[u64], out: &mut [u64])
     requires { ⌜ (r ≤ 1024) × (c ≤ 1024) × Legal r c (now a) × (length (now out) ≡ words r c) ⌝ }
@@ -26,10 +26,10 @@ fn negation_rows(r: usize, c: usize, a: &[u64], out: &mut [u64])
 }
 
 pub fn negation(s: Size, a: &[u64], out: &mut [u64]) -> Answer
-    ensures { λ r. ⌜ (number r, now (out .exit)) ≡ negationMeans s (now (a .entry)) (now (out .entry)) ⌝ }
+    ensures { λ r. ⌜ (word r, now (out .exit)) ≡ negationMeans s (now (a .entry)) (now (out .entry)) ⌝ }
 {
     let f = judged(s, s, a, out.len());
-    if number(f) != 0 {
+    if word(f) != 0 {
         return f;
     }
     let r = s.rows as usize;

@@ -2,40 +2,42 @@
 ghost use mathlib.Core.Path.{_≡_};
 ghost use Prim.Native.Nat.{ℕ};
 ghost use lib.ListN.{length, getD};
-ghost use Rattle.requests.specs.Answers.{number, first};
-ghost use Rattle.matrix.specs.Opening.{openingTests, openingMeans};
+ghost use Rattle.requests.specs.Answers.{word, first};
+ghost use Rattle.matrix.specs.Opening.{opened, openingTests, openingMeans};
 use super::job::Job;
 use super::job::meant;
 use super::misfit::misfit;
 use requests::Answer;
+use requests::Buffer;
+use requests::Reason;
 use requests::Size;
 use requests::faults::either_fault;
-use requests::number;
 use requests::sizes::either_over;
 use rows::clear::clear;
 
-pub struct Opened {
-    pub answer: Answer,
-    pub job: Job,
+// Done with its record, or refused with a reason and no record.
+pub enum Opened {
+    Done(Job),
+    Refused(Reason),
 }
 
 // The tests of sizes, width, lengths and cells; t and p are how many words table and product have.
 pub fn judged(x: Size, y: Size, width: u64, a: &[u64], b: &[u64], t: usize, p: usize) -> Answer
-    ensures { λ r. ⌜ number r ≡ first (openingTests x y width (now (a .entry)) (now (b .entry)) t p) ⌝ }
+    ensures { λ r. ⌜ word r ≡ first (openingTests x y width (now (a .entry)) (now (b .entry)) t p) ⌝ }
 {
     if either_over(x, y) {
-        return Answer::TooLarge;
+        return Answer::Refused(Reason::TooLarge);
     }
     if x.columns != y.rows {
-        return Answer::SizesDiffer;
+        return Answer::Refused(Reason::SizesDiffer);
     }
     if width > 8 {
-        return Answer::WidthWrong;
+        return Answer::Refused(Reason::WidthWrong);
     }
     if misfit(x, y, meant(width), a.len(), b.len(), t, p) {
-        return Answer::LengthWrong;
+        return Answer::Refused(Reason::LengthWrong);
     }
-    either_fault(x, y, a, b)
+    either_fault(Buffer::First, Buffer::Second, x, y, a, b)
 }
 
 // Zero in a whole buffer.
@@ -55,21 +57,11 @@ pub fn opening(
     table: &mut [u64],
     product: &mut [u64],
 ) -> Opened
-    ensures { λ r. ⌜ (number (r .answer), (r .job, (now (table .exit), now (product .exit)))) ≡ openingMeans x y width (now (a .entry)) (now (b .entry)) (now (table .entry)) (now (product .entry)) ⌝ }
+    ensures { λ r. ⌜ opened r (now (table .exit)) (now (product .exit)) ≡ openingMeans x y width (now (a .entry)) (now (b .entry)) (now (table .entry)) (now (product .entry)) ⌝ }
 {
     let f = judged(x, y, width, a, b, table.len(), product.len());
-    if number(f) != 0 {
-        let none = Job {
-            m: 0,
-            l: 0,
-            n: 0,
-            width: 0,
-            done: 0,
-        };
-        return Opened {
-            answer: f,
-            job: none,
-        };
+    if let Answer::Refused(why) = f {
+        return Opened::Refused(why);
     }
     zero(table);
     zero(product);
@@ -80,8 +72,5 @@ pub fn opening(
         width: meant(width),
         done: 0,
     };
-    Opened {
-        answer: Answer::Done,
-        job: new,
-    }
+    Opened::Done(new)
 }

@@ -1,6 +1,6 @@
 // A matrix from one byte a cell.
 ghost use mathlib.Core.Path.{_≡_};
-ghost use mathlib.Core.Bool.{false, _||_};
+ghost use mathlib.Core.Bool.{true, false, _||_};
 ghost use Prim.Native.Nat.{ℕ, _+_, _-_, _*_, _≤_, _<_, min, max};
 ghost use lib.Dec.{ltb};
 ghost use lib.ListN.{length, getD};
@@ -8,21 +8,26 @@ ghost use Rattle.cells.specs.Any.{any};
 ghost use Rattle.cells.specs.Bit.{wordOf};
 ghost use Rattle.cells.specs.Digit.{unitOf, signOf};
 ghost use Rattle.buffers.specs.Buffer.{planes, words};
-ghost use Rattle.requests.specs.Answers.{number, first};
+ghost use Rattle.requests.specs.Answers.{word, first};
 ghost use Rattle.requests.specs.Sizes.{over, unfit};
+ghost use Rattle.requests.specs.declared.Buffer.the-variants.{First};
+ghost use Rattle.requests.specs.Faults.{placeAt};
 ghost use Rattle.rows.specs.Row.{Made};
 ghost use Rattle.matrix.specs.Gathered.{upTo};
 ghost use Rattle.matrix.specs.Unpacked.{unlike};
-ghost use Rattle.matrix.specs.Pack.{packOf, packTests, packMeans};
+ghost use Rattle.matrix.specs.Pack.{packOf, aboveFirst, aboveAt, packTests, packMeans};
 use super::unpacked::unlike;
 use buffers::planes::planes;
 use buffers::planes::real;
 use cells::Cells;
 use requests::Answer;
+use requests::Buffer;
+use requests::Place;
+use requests::Reason;
 use requests::Size;
-use requests::number;
 use requests::sizes::over;
 use requests::sizes::unfit;
+use requests::word;
 use rows::words::store;
 
 fn either_unlike(s: Size, n: usize, m: usize) -> bool
@@ -54,17 +59,42 @@ fn above(cells: &[u8]) -> bool
     worst > 2
 }
 
+// The first byte above 2, of cells that have one. Only a refusal comes here.
+fn first_above(cells: &[u8]) -> usize
+    requires { ⌜ any (length (now cells)) (λ k. ltb 2 (getD (now cells) k 0)) ≡ true ⌝ }
+    ensures { λ k. ⌜ k ≡ aboveFirst (now (cells .entry)) ⌝ }
+{
+    let mut k = 0;
+    while cells[k] < 3 {
+        k += 1;
+    }
+    k
+}
+
+fn above_at(s: Size, cells: &[u8]) -> Place
+    requires { ⌜ (over s ≡ false) × (unlike s (length (now cells)) ≡ false) × (any (length (now cells)) (λ k. ltb 2 (getD (now cells) k 0)) ≡ true) ⌝ }
+    ensures { λ p. ⌜ p ≡ placeAt First (aboveAt (s .columns) (now (cells .entry))) ⌝ }
+{
+    let c = s.columns as usize;
+    let k = first_above(cells);
+    Place {
+        buffer: Buffer::First,
+        row: (k / c) as u16,
+        column: (k % c) as u32,
+    }
+}
+
 fn judged(s: Size, cells: &[u8], n: usize) -> Answer
-    ensures { λ r. ⌜ number r ≡ first (packTests s (now (cells .entry)) n) ⌝ }
+    ensures { λ r. ⌜ word r ≡ first (packTests s (now (cells .entry)) n) ⌝ }
 {
     if over(s) {
-        return Answer::TooLarge;
+        return Answer::Refused(Reason::TooLarge);
     }
     if either_unlike(s, cells.len(), n) {
-        return Answer::LengthWrong;
+        return Answer::Refused(Reason::LengthWrong);
     }
     if above(cells) {
-        return Answer::DigitWrong;
+        return Answer::Refused(Reason::DigitWrong(above_at(s, cells)));
     }
     Answer::Done
 }
@@ -117,10 +147,10 @@ fn pack_rows(r: usize, c: usize, cells: &[u8], out: &mut [u64])
 }
 
 pub fn pack(s: Size, cells: &[u8], out: &mut [u64]) -> Answer
-    ensures { λ r. ⌜ (number r, now (out .exit)) ≡ packMeans s (now (cells .entry)) (now (out .entry)) ⌝ }
+    ensures { λ r. ⌜ (word r, now (out .exit)) ≡ packMeans s (now (cells .entry)) (now (out .entry)) ⌝ }
 {
     let f = judged(s, cells, out.len());
-    if number(f) != 0 {
+    if word(f) != 0 {
         return f;
     }
     let r = s.rows as usize;

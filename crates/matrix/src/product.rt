@@ -3,7 +3,7 @@ ghost use mathlib.Core.Path.{_≡_};
 ghost use Prim.Native.Nat.{_^_};
 ghost use lib.ListN.{length};
 ghost use Rattle.buffers.specs.Buffer.{words, cell, Legal, encode};
-ghost use Rattle.requests.specs.Answers.{number};
+ghost use Rattle.requests.specs.Answers.{word};
 ghost use Rattle.steps.specs.Step.{run, opening};
 ghost use Rattle.steps.specs.StepList.{steps};
 ghost use Rattle.walk.specs.Shape.{Within};
@@ -13,7 +13,7 @@ use super::opening::judged;
 use super::opening::zero;
 use requests::Answer;
 use requests::Size;
-use requests::number;
+use requests::word;
 use walk::Shape;
 use walk::whole::blocks_all;
 
@@ -37,10 +37,10 @@ pub fn product(
     table: &mut [u64],
     product: &mut [u64],
 ) -> Answer
-    ensures { λ r. ⌜ (number r, (now (table .exit), now (product .exit))) ≡ productMeans x y width (now (a .entry)) (now (b .entry)) (now (table .entry)) (now (product .entry)) ⌝ }
+    ensures { λ r. ⌜ (word r, (now (table .exit), now (product .exit))) ≡ productMeans x y width (now (a .entry)) (now (b .entry)) (now (table .entry)) (now (product .entry)) ⌝ }
 {
     let f = judged(x, y, width, a, b, table.len(), product.len());
-    if number(f) != 0 {
+    if word(f) != 0 {
         return f;
     }
     let shape = Shape {

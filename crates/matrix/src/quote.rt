@@ -1,11 +1,12 @@
 // The size quote: an upper bound of the steps, from the sizes alone.
 ghost use mathlib.Core.Path.{_≡_};
 ghost use Prim.Native.Nat.{_≤_, _<_, min};
-ghost use Rattle.requests.specs.Answers.{number};
+ghost use Rattle.requests.specs.Answers.{word};
 ghost use Rattle.steps.specs.Count.{quote};
 ghost use Rattle.matrix.specs.Quote.{quoteMeans};
 use super::job::meant;
 use requests::Answer;
+use requests::Reason;
 use requests::Size;
 use requests::sizes::over;
 use walk::place::blocks;
@@ -44,17 +45,17 @@ fn quoted(m: usize, l: usize, k: usize) -> u64
 }
 
 pub fn quote(x: Size, width: u64) -> Counted
-    ensures { λ r. ⌜ (number (r .answer), r .steps) ≡ quoteMeans x width ⌝ }
+    ensures { λ r. ⌜ (word (r .answer), r .steps) ≡ quoteMeans x width ⌝ }
 {
     if over(x) {
         return Counted {
-            answer: Answer::TooLarge,
+            answer: Answer::Refused(Reason::TooLarge),
             steps: 0,
         };
     }
     if width > 8 {
         return Counted {
-            answer: Answer::WidthWrong,
+            answer: Answer::Refused(Reason::WidthWrong),
             steps: 0,
         };
     }

@@ -3,29 +3,31 @@ ghost use mathlib.Core.Path.{_≡_};
 ghost use Prim.Native.Nat.{_≤_, _<_};
 ghost use lib.ListN.{length};
 ghost use Rattle.buffers.specs.Buffer.{words, Legal};
-ghost use Rattle.requests.specs.Answers.{number, first};
+ghost use Rattle.requests.specs.Answers.{word, first};
 ghost use Rattle.matrix.specs.Scaling.{scalingOf, scalingTests, scalingMeans};
 use buffers::planes::planes;
 use requests::Answer;
+use requests::Buffer;
+use requests::Reason;
 use requests::Size;
 use requests::faults::fault;
-use requests::number;
 use requests::single::either_unfit;
 use requests::sizes::over;
+use requests::word;
 
 fn judged(s: Size, d: u8, a: &[u64], n: usize) -> Answer
-    ensures { λ r. ⌜ number r ≡ first (scalingTests s d (now (a .entry)) n) ⌝ }
+    ensures { λ r. ⌜ word r ≡ first (scalingTests s d (now (a .entry)) n) ⌝ }
 {
     if over(s) {
-        return Answer::TooLarge;
+        return Answer::Refused(Reason::TooLarge);
     }
     if either_unfit(s, s, a.len(), n) {
-        return Answer::LengthWrong;
+        return Answer::Refused(Reason::LengthWrong);
     }
     if d > 2 {
-        return Answer::DigitWrong;
+        return Answer::Refused(Reason::ScaleWrong);
     }
-    fault(s, a)
+    fault(Buffer::First, s, a)
 }
 
 fn scaling_rows(r: usize, c: usize, d: u64, a: &[u64], out: &mut [u64])
@@ -43,10 +45,10 @@ fn scaling_rows(r: usize, c: usize, d: u64, a: &[u64], out: &mut [u64])
 }
 
 pub fn scaling(s: Size, d: u8, a: &[u64], out: &mut [u64]) -> Answer
-    ensures { λ r. ⌜ (number r, now (out .exit)) ≡ scalingMeans s d (now (a .entry)) (now (out .entry)) ⌝ }
+    ensures { λ r. ⌜ (word r, now (out .exit)) ≡ scalingMeans s d (now (a .entry)) (now (out .entry)) ⌝ }
 {
     let f = judged(s, d, a, out.len());
-    if number(f) != 0 {
+    if word(f) != 0 {
         return f;
     }
     let r = s.rows as usize;

@@ -1,12 +1,12 @@
 // The tally of a row, which is a matrix of one row.
 ghost use mathlib.Core.Path.{_≡_};
-ghost use Rattle.requests.specs.Answers.{number};
+ghost use Rattle.requests.specs.Answers.{word};
 ghost use Rattle.matrix.specs.Tally.{tallyMeans};
 use super::check::check;
 use buffers::planes::planes;
 use requests::Answer;
 use requests::Size;
-use requests::number;
+use requests::word;
 
 // Zeros, ones and twos, and whether ones and twos are equally many.
 pub struct Tallied {
@@ -16,14 +16,14 @@ pub struct Tallied {
 }
 
 pub fn tally(columns: u64, a: &[u64]) -> Tallied
-    ensures { λ r. ⌜ (number (r .answer), (r .counts, r .balanced)) ≡ tallyMeans columns (now (a .entry)) ⌝ }
+    ensures { λ r. ⌜ (word (r .answer), (r .counts, r .balanced)) ≡ tallyMeans columns (now (a .entry)) ⌝ }
 {
     let s = Size {
         rows: 1,
         columns: columns,
     };
     let f = check(s, a);
-    if number(f) != 0 {
+    if word(f) != 0 {
         return Tallied {
             answer: f,
             counts: [0, 0, 0],

@@ -3,7 +3,7 @@ ghost use mathlib.Core.Path.{_≡_};
 ghost use Prim.Native.Nat.{_+_, _-_, _*_, _≤_, _<_, min};
 ghost use lib.ListN.{length};
 ghost use Rattle.buffers.specs.Buffer.{planes, words, Legal};
-ghost use Rattle.requests.specs.Answers.{number};
+ghost use Rattle.requests.specs.Answers.{word};
 ghost use Rattle.matrix.specs.RowBlocks.{column, WordMade, BlockMade};
 ghost use Rattle.matrix.specs.Transpose.{transposeOf, transposeMeans};
 use blocks64::block::block;
@@ -11,8 +11,8 @@ use buffers::planes::planes;
 use buffers::planes::real;
 use requests::Answer;
 use requests::Size;
-use requests::number;
 use requests::single::judged;
+use requests::word;
 
 // Word p of the rows of the transpose from row 64 k on, both planes. A plane of the matrix has u words, one of the transpose q.
 fn transpose_block(
@@ -63,14 +63,14 @@ fn transpose_rows(r: usize, c: usize, a: &[u64], out: &mut [u64])
 }
 
 pub fn transpose(s: Size, a: &[u64], out: &mut [u64]) -> Answer
-    ensures { λ r. ⌜ (number r, now (out .exit)) ≡ transposeMeans s (now (a .entry)) (now (out .entry)) ⌝ }
+    ensures { λ r. ⌜ (word r, now (out .exit)) ≡ transposeMeans s (now (a .entry)) (now (out .entry)) ⌝ }
 {
     let t = Size {
         rows: s.columns,
         columns: s.rows,
     };
     let f = judged(s, t, a, out.len());
-    if number(f) != 0 {
+    if word(f) != 0 {
         return f;
     }
     let r = s.rows as usize;

@@ -3,17 +3,19 @@ ghost use mathlib.Core.Path.{_≡_};
 ghost use mathlib.Core.Bool.{false};
 ghost use Prim.Native.Nat.{_≤_};
 ghost use Rattle.buffers.specs.Buffer.{cell};
-ghost use Rattle.requests.specs.Answers.{number, first};
+ghost use Rattle.requests.specs.Answers.{word, first};
 ghost use Rattle.walk.specs.Place.{StandsAt};
 ghost use Rattle.matrix.specs.Job.{unwide};
-ghost use Rattle.matrix.specs.Turn.{foundTests, turnedOf, turnMeans};
+ghost use Rattle.matrix.specs.Turn.{turned, foundTests, turnedOf, turnMeans};
 use super::job::Job;
 use super::misfit::misfit;
 use requests::Answer;
+use requests::Buffer;
+use requests::Reason;
 use requests::Size;
 use requests::faults::either_fault;
-use requests::number;
 use requests::sizes::either_over;
+use requests::word;
 use walk::Left;
 use walk::Shape;
 use walk::blocks::blocks_part;
@@ -21,11 +23,10 @@ use walk::blocks::least;
 use walk::place::Standing;
 use walk::place::place;
 
-pub struct Turned {
-    pub answer: Answer,
-    pub job: Job,
-    pub made: u64,
-    pub finished: bool,
+// Done with its record, the steps made and whether the list is finished, or refused with a reason and no record.
+pub enum Turned {
+    Done { job: Job, made: u64, finished: bool },
+    Refused(Reason),
 }
 
 // In a turn a width is 1 to 8.
@@ -40,7 +41,7 @@ pub fn unwide(width: u64) -> bool
 
 // The tests of sizes, width, lengths and cells.
 fn judged(job: Job, a: &[u64], b: &[u64], table: &[u64], product: &[u64]) -> Answer
-    ensures { λ r. ⌜ number r ≡ first (foundTests job (now (a .entry)) (now (b .entry)) (now (table .entry)) (now (product .entry))) ⌝ }
+    ensures { λ r. ⌜ word r ≡ first (foundTests job (now (a .entry)) (now (b .entry)) (now (table .entry)) (now (product .entry))) ⌝ }
 {
     let x = Size {
         rows: job.m,
@@ -51,17 +52,17 @@ fn judged(job: Job, a: &[u64], b: &[u64], table: &[u64], product: &[u64]) -> Ans
         columns: job.n,
     };
     if either_over(x, y) {
-        return Answer::TooLarge;
+        return Answer::Refused(Reason::TooLarge);
     }
     let width = job.width;
     if unwide(width) {
-        return Answer::WidthWrong;
+        return Answer::Refused(Reason::WidthWrong);
     }
     if misfit(x, y, width, a.len(), b.len(), table.len(), product.len()) {
-        return Answer::LengthWrong;
+        return Answer::Refused(Reason::LengthWrong);
     }
-    let f = either_fault(x, y, a, b);
-    if number(f) != 0 {
+    let f = either_fault(Buffer::First, Buffer::Second, x, y, a, b);
+    if word(f) != 0 {
         return f;
     }
     let t = Size {
@@ -72,19 +73,7 @@ fn judged(job: Job, a: &[u64], b: &[u64], table: &[u64], product: &[u64]) -> Ans
         rows: job.m,
         columns: job.n,
     };
-    either_fault(t, p, table, product)
-}
-
-// A refused turn hands the record back.
-fn refused(job: Job, answer: Answer) -> Turned
-    ensures { λ r. ⌜ (r .answer ≡ answer) × (r .job ≡ job) × (r .made ≡ 0) × (r .finished ≡ false) ⌝ }
-{
-    Turned {
-        answer: answer,
-        job: job,
-        made: 0,
-        finished: false,
-    }
+    either_fault(Buffer::Third, Buffer::Fourth, t, p, table, product)
 }
 
 // An accepted turn: the steps that it makes, from the place where the job stands.
@@ -98,7 +87,7 @@ fn accepted(
     budget: u32,
 ) -> Turned
     requires { ⌜ (first (foundTests job (now a) (now b) (now table) (now product)) ≡ 0) × StandsAt (job .m) (job .l) (job .width) (cell (job .l) (now a)) (job .done) at × (job .done ≤ at .total) ⌝ }
-    ensures { λ r. ⌜ (number (r .answer) ≡ 0) × ((r .job, (r .made, (r .finished, (now (table .exit), now (product .exit))))) ≡ turnedOf job (now (a .entry)) (now (b .entry)) (now (table .entry)) (now (product .entry)) budget) ⌝ }
+    ensures { λ r. ⌜ turned r (now (table .exit)) (now (product .exit)) ≡ (0, turnedOf job (now (a .entry)) (now (b .entry)) (now (table .entry)) (now (product .entry)) budget) ⌝ }
 {
     let made = least(budget as u64, at.total - job.done);
     let shape = Shape {
@@ -114,11 +103,11 @@ fn accepted(
     blocks_part(table, product, a, b, shape, at.block as usize, left);
     let mut next = job;
     next.done = job.done + made;
-    Turned {
-        answer: Answer::Done,
+    let finished = next.done == at.total;
+    Turned::Done {
         job: next,
         made: made,
-        finished: next.done == at.total,
+        finished: finished,
     }
 }
 
@@ -130,11 +119,11 @@ pub fn turn(
     product: &mut [u64],
     budget: u32,
 ) -> Turned
-    ensures { λ r. ⌜ (number (r .answer), (r .job, (r .made, (r .finished, (now (table .exit), now (product .exit)))))) ≡ turnMeans job (now (a .entry)) (now (b .entry)) (now (table .entry)) (now (product .entry)) budget ⌝ }
+    ensures { λ r. ⌜ turned r (now (table .exit)) (now (product .exit)) ≡ turnMeans job (now (a .entry)) (now (b .entry)) (now (table .entry)) (now (product .entry)) budget ⌝ }
 {
     let f = judged(job, a, b, table, product);
-    if number(f) != 0 {
-        return refused(job, f);
+    if let Answer::Refused(why) = f {
+        return Turned::Refused(why);
     }
     let at = place(
         a,
@@ -144,7 +133,7 @@ pub fn turn(
         job.done,
     );
     if job.done > at.total {
-        return refused(job, Answer::StepsExceed);
+        return Turned::Refused(Reason::StepsExceed);
     }
     accepted(job, a, b, table, product, at, budget)
 }

@@ -5,7 +5,7 @@ ghost use Prim.Native.Nat.{_+_, _*_, _≤_, _<_};
 ghost use lib.ListN.{length};
 ghost use Rattle.cells.specs.Pair.{digit};
 ghost use Rattle.buffers.specs.Buffer.{planes, Legal};
-ghost use Rattle.requests.specs.Answers.{number, first};
+ghost use Rattle.requests.specs.Answers.{word, first};
 ghost use Rattle.requests.specs.Sizes.{over, unfit};
 ghost use Rattle.rows.specs.Row.{column, Written};
 ghost use Rattle.matrix.specs.Unpacked.{unlike};
@@ -15,11 +15,13 @@ use buffers::planes::planes;
 use buffers::planes::real;
 use cells::Cells;
 use requests::Answer;
+use requests::Buffer;
+use requests::Reason;
 use requests::Size;
 use requests::faults::fault;
-use requests::number;
 use requests::sizes::over;
 use requests::sizes::unfit;
+use requests::word;
 use rows::words::load;
 
 fn either_unfit(s: Size, n: usize, m: usize) -> bool
@@ -33,15 +35,15 @@ fn either_unfit(s: Size, n: usize, m: usize) -> bool
 }
 
 fn judged(s: Size, a: &[u64], n: usize) -> Answer
-    ensures { λ r. ⌜ number r ≡ first (unpackTests s (now (a .entry)) n) ⌝ }
+    ensures { λ r. ⌜ word r ≡ first (unpackTests s (now (a .entry)) n) ⌝ }
 {
     if over(s) {
-        return Answer::TooLarge;
+        return Answer::Refused(Reason::TooLarge);
     }
     if either_unfit(s, a.len(), n) {
-        return Answer::LengthWrong;
+        return Answer::Refused(Reason::LengthWrong);
     }
-    fault(s, a)
+    fault(Buffer::First, s, a)
 }
 
 // The lowest n digits of a pair of words, from byte `to` on.
@@ -86,10 +88,10 @@ fn unpack_rows(r: usize, c: usize, a: &[u64], out: &mut [u8])
 }
 
 pub fn unpack(s: Size, a: &[u64], out: &mut [u8]) -> Answer
-    ensures { λ r. ⌜ (number r, now (out .exit)) ≡ unpackMeans s (now (a .entry)) (now (out .entry)) ⌝ }
+    ensures { λ r. ⌜ (word r, now (out .exit)) ≡ unpackMeans s (now (a .entry)) (now (out .entry)) ⌝ }
 {
     let f = judged(s, a, out.len());
-    if number(f) != 0 {
+    if word(f) != 0 {
         return f;
     }
     let r = s.rows as usize;

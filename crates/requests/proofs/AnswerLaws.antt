@@ -6,9 +6,7 @@ use Prim.Native.Nat.{ℕ, zero, suc}
 use native.Mathlib.Omega.{arith}
 use lib.Dec.{T, ltb, ltb→lt}
 use mir.Val.{boolByte}
-use Rattle.requests.specs.declared.Answer.{Answer}
-use Rattle.requests.specs.declared.Answer.the-variants.{Done, TooLarge, SizesDiffer, WidthWrong, LengthWrong, StraySign, PaddingSet, StepsExceed, DigitWrong, NotAFrame, AboveLimit}
-use Rattle.requests.specs.Answers.{number, Tests, first, left, answered}
+use Rattle.requests.specs.Answers.{Tests, first, left, answered}
 use Rattle.requests.specs.Exact.{None, Gives, Numbered, Seen, Exact}
 
 -- ---- the code's way through the tests
@@ -26,7 +24,15 @@ abbrev pub positive : Tests → Bool
 positive [] = true
 positive ((t, n) ∷ ts) = ltb 0 n && positive ts
 
-both : (p q : Bool) → T (p && q) → T p × T q
+pub positive-append : (ts us : Tests) → T (positive ts) → T (positive us) → T (positive (ts ++ us))
+positive-append [] us p q = q
+positive-append ((t, n) ∷ ts) us p q = go (ltb 0 n) (positive ts) p (positive-append ts us)
+  where
+    go : (a b : Bool) → T (a && b) → (T b → T (positive us) → T (positive (ts ++ us))) → T (a && positive (ts ++ us))
+    go true b h more = more h q
+    go false b h more = absurd h
+
+pub both : (p q : Bool) → T (p && q) → T p × T q
 both true q h = (tt, h)
 both false q h = absurd h
 
@@ -131,6 +137,10 @@ seen E right = record { numbered = E .numbered; keeps = E .keeps; right = right 
 pub mapped : {S U : Type 0} {ts : Tests} {old new : S} {n : ℕ} {s : S} (f : S → U) → Exact ts old new n s → Exact ts (f old) (f new) n (f s)
 mapped f E = record { numbered = E .numbered; keeps = λ ne. ap f (E .keeps ne); right = λ z. ap f (E .right z) }
 
+-- a refused request leaves what was there, whatever is looked at of it
+pub stays : {S U : Type 0} {ts : Tests} {old new : S} {Right : U → Type 0} {n : ℕ} {s : S} (f : S → U) → Exact ts old new n s → (n ≡ 0 → ⊥) → Seen ts (f old) Right n (f s)
+stays f E ne = record { numbered = E .numbered; keeps = λ _. ap f (E .keeps ne); right = λ z. absurd (ne z) }
+
 -- a request that is done, and what was done after it
 pub goes-on : {S : Type 0} {ts : Tests} {old s : S} {Right : S → Type 0} {n : ℕ} → Numbered ts n → n ≡ 0 → Right s → Seen ts old Right 0 s
 goes-on {ts = ts} N ok right = record { numbered = subst (λ (n : ℕ). Numbered ts n) ok N; keeps = λ ne. absurd (ne refl); right = λ _. right }
@@ -139,43 +149,3 @@ goes-on {ts = ts} N ok right = record { numbered = subst (λ (n : ℕ). Numbered
 pub flag : (t : Bool) → boolByte t ≡ cond t 1 0
 flag true = refl
 flag false = refl
-
--- ---- two outcomes that satisfy one statement coincide
-
-nth : List Answer → ℕ → Answer
-nth [] n = Done
-nth (a ∷ rest) zero = a
-nth (a ∷ rest) (suc n) = nth rest n
-
--- a number that no answer has is named as `Done` here
-named : ℕ → Answer
-named = nth (Done ∷ TooLarge ∷ SizesDiffer ∷ WidthWrong ∷ LengthWrong ∷ StraySign ∷ PaddingSet ∷ StepsExceed ∷ DigitWrong ∷ Done ∷ NotAFrame ∷ AboveLimit ∷ [])
-
-named-number : (a : Answer) → named (number a) ≡ a
-unfolding named nth
-named-number Done = refl
-named-number TooLarge = refl
-named-number SizesDiffer = refl
-named-number WidthWrong = refl
-named-number LengthWrong = refl
-named-number StraySign = refl
-named-number PaddingSet = refl
-named-number StepsExceed = refl
-named-number DigitWrong = refl
-named-number NotAFrame = refl
-named-number AboveLimit = refl
-
-pub number-same : (a b : Answer) → number a ≡ number b → a ≡ b
-number-same a b e = sym (named-number a) ∙ ap named e ∙ named-number b
-
--- an outcome is a number and what is left; a statement is what they equal
-pub numbers-coincide : {S : Type 0} (means : ℕ × S) (m n : ℕ) (s t : S) → (m, s) ≡ means → (n, t) ≡ means → (m ≡ n) × (s ≡ t)
-numbers-coincide {S = S} means m n s t p q =
-    let e : _≡_ {A = ℕ × S} (m, s) (n, t) = p ∙ sym q in
-    (ap (λ (o : ℕ × S). o .0) e, ap (λ (o : ℕ × S). o .1) e)
-
--- the same of an answer by its number
-pub coincide : {S : Type 0} (means : ℕ × S) (a b : Answer) (s t : S) → (number a, s) ≡ means → (number b, t) ≡ means → (a ≡ b) × (s ≡ t)
-coincide means a b s t p q =
-    let e = numbers-coincide means (number a) (number b) s t p q in
-    (number-same a b (e .0), e .1)

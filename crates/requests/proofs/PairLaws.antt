@@ -8,19 +8,25 @@ use lib.ListN.{length}
 use borrow.Author.Tests.{eqb-true, not-false}
 use Rattle.cells.proofs.AnyLaws.{or-left, or-right}
 use Rattle.requests.specs.declared.Size.{Size}
+use Rattle.requests.specs.declared.Buffer.{Buffer}
+use Rattle.requests.specs.declared.Buffer.the-variants.{First, Second}
 use Rattle.buffers.specs.Buffer.{words, Legal}
 use Rattle.requests.specs.Answers.{first}
 use Rattle.requests.specs.Sizes.{over, unfit}
-use Rattle.requests.specs.Faults.{faults}
+use Rattle.requests.specs.Faults.{faults, pairFaults}
 use Rattle.requests.specs.Pair.{unequal, unfits, pairTests}
 use Rattle.requests.proofs.SizeLaws.{over-rows, over-columns, unfit-long}
 use Rattle.requests.specs.Exact.{None}
-use Rattle.requests.proofs.AnswerLaws.{positive, first-none}
+use Rattle.requests.proofs.AnswerLaws.{positive, positive-append, first-none}
+use Rattle.requests.proofs.WordLaws.{placed-positive}
 use Rattle.buffers.proofs.BufferLaws.{legal-tests}
 
-pub faults-positive : (s : Size) (ws : List ℕ) → T (positive (faults s ws))
+pub faults-positive : (n : Buffer) (s : Size) (ws : List ℕ) → T (positive (faults n s ws))
 unfolding faults
-faults-positive s ws = tt
+faults-positive n s ws = rw (placed-positive 5 _, placed-positive 6 _) tt
+
+pub pair-positive : (n m : Buffer) (x y : Size) (a b : List ℕ) → T (positive (pairFaults n m x y a b))
+pair-positive n m x y a b = positive-append (faults n x a) (faults m y b) (faults-positive n x a) (faults-positive m y b)
 
 module _ (x y : Size) (l m n : ℕ) (h : unfits x y l m n ≡ false) where
   pub fits-a : unfit x l ≡ false
@@ -56,7 +62,7 @@ pub record Ready (x y : Size) (a b : List ℕ) (n : ℕ) : Type 0 where
 pub ready : (x y : Size) (a b : List ℕ) (n : ℕ) → first (pairTests x y a b n) ≡ 0 → Ready x y a b n
 unfolding pairTests faults
 ready x y a b n z =
-    let t : None (pairTests x y a b n) = first-none (pairTests x y a b n) tt z in
+    let t : None (pairTests x y a b n) = first-none (pairTests x y a b n) (pair-positive First Second x y a b) z in
     let small = or-left (over x) (over y) (t .0) in
     let f = t .1 .1 .0 in
     let la = unfit-long x (length a) (fits-a x y (length a) (length b) n f) in

@@ -5,6 +5,7 @@ use Prim.Native.Nat.{ℕ, _≤_}
 use lib.ListN.{length}
 use Rattle.cells.proofs.AnyLaws.{or-left, or-right}
 use Rattle.requests.specs.declared.Size.{Size}
+use Rattle.requests.specs.declared.Buffer.the-variants.{First}
 use Rattle.buffers.specs.Buffer.{words, Legal}
 use Rattle.requests.specs.Answers.{first}
 use Rattle.requests.specs.Sizes.{unfit}
@@ -13,6 +14,7 @@ use Rattle.requests.specs.Single.{singleTests}
 use Rattle.requests.proofs.SizeLaws.{over-rows, over-columns, unfit-long}
 use Rattle.requests.specs.Exact.{None}
 use Rattle.requests.proofs.AnswerLaws.{first-none}
+use Rattle.requests.proofs.PairLaws.{faults-positive}
 use Rattle.buffers.proofs.BufferLaws.{legal-tests}
 
 -- what no test's holding says
@@ -25,7 +27,7 @@ pub record Ready (s t : Size) (a : List ℕ) (n : ℕ) : Type 0 where
 pub ready : (s t : Size) (a : List ℕ) (n : ℕ) → first (singleTests s t a n) ≡ 0 → Ready s t a n
 unfolding singleTests faults
 ready s t a n z =
-    let h : None (singleTests s t a n) = first-none (singleTests s t a n) tt z in
+    let h : None (singleTests s t a n) = first-none (singleTests s t a n) (faults-positive First s a) z in
     record {
       rows = over-rows s (h .0);
       columns = over-columns s (h .0);

@@ -5,6 +5,7 @@ use Prim.Native.Nat.{ℕ}
 use lib.Dec.{eqb}
 use lib.ListN.{length}
 use Rattle.requests.specs.declared.Size.{Size}
+use Rattle.requests.specs.declared.Buffer.the-variants.{First, Second}
 use Rattle.requests.specs.Answers.{Tests}
 use Rattle.requests.specs.Sizes.{over, unfit}
 use Rattle.requests.specs.Faults.{pairFaults}
@@ -19,4 +20,4 @@ unfits x y l m n = unfit x l || (unfit y m || unfit x n)
 
 -- n is how many words there are for the result
 unfoldable pub pairTests : Size → Size → List ℕ → List ℕ → ℕ → Tests
-pairTests x y a b n = (over x || over y, 1) ∷ (unequal x y, 2) ∷ (unfits x y (length a) (length b) n, 4) ∷ pairFaults x y a b
+pairTests x y a b n = (over x || over y, 1) ∷ (unequal x y, 2) ∷ (unfits x y (length a) (length b) n, 4) ∷ pairFaults First Second x y a b

@@ -1,13 +1,15 @@
 // Two matrices of the same size.
 ghost use mathlib.Core.Path.{_≡_};
 ghost use mathlib.Core.Bool.{false, _||_};
-ghost use Rattle.requests.specs.Answers.{number, first};
+ghost use Rattle.requests.specs.Answers.{word, first};
 ghost use Rattle.requests.specs.Sizes.{over};
 ghost use Rattle.requests.specs.Pair.{unequal, unfits, pairTests};
 use super::faults::either_fault;
 use super::sizes::either_over;
 use super::sizes::unfit;
 use crate::Answer;
+use crate::Buffer;
+use crate::Reason;
 use crate::Size;
 
 fn unequal(x: Size, y: Size) -> bool
@@ -34,16 +36,16 @@ fn unfits(x: Size, y: Size, l: usize, m: usize, n: usize) -> bool
 
 // What is wrong with two matrices and n words for what is made of them.
 pub fn judged(x: Size, y: Size, a: &[u64], b: &[u64], n: usize) -> Answer
-    ensures { λ r. ⌜ number r ≡ first (pairTests x y (now (a .entry)) (now (b .entry)) n) ⌝ }
+    ensures { λ r. ⌜ word r ≡ first (pairTests x y (now (a .entry)) (now (b .entry)) n) ⌝ }
 {
     if either_over(x, y) {
-        return Answer::TooLarge;
+        return Answer::Refused(Reason::TooLarge);
     }
     if unequal(x, y) {
-        return Answer::SizesDiffer;
+        return Answer::Refused(Reason::SizesDiffer);
     }
     if unfits(x, y, a.len(), b.len(), n) {
-        return Answer::LengthWrong;
+        return Answer::Refused(Reason::LengthWrong);
     }
-    either_fault(x, y, a, b)
+    either_fault(Buffer::First, Buffer::Second, x, y, a, b)
 }

@@ -1,13 +1,15 @@
 // One matrix, and room for what is made of it.
 ghost use mathlib.Core.Path.{_≡_};
 ghost use mathlib.Core.Bool.{false, _||_};
-ghost use Rattle.requests.specs.Answers.{number, first};
+ghost use Rattle.requests.specs.Answers.{word, first};
 ghost use Rattle.requests.specs.Sizes.{over, unfit};
 ghost use Rattle.requests.specs.Single.{singleTests};
 use super::faults::fault;
 use super::sizes::over;
 use super::sizes::unfit;
 use crate::Answer;
+use crate::Buffer;
+use crate::Reason;
 use crate::Size;
 
 pub fn either_unfit(s: Size, t: Size, l: usize, n: usize) -> bool
@@ -23,13 +25,13 @@ pub fn either_unfit(s: Size, t: Size, l: usize, n: usize) -> bool
 // What is wrong with a matrix of size s and n words for one of size t.
 pub fn judged(s: Size, t: Size, a: &[u64], n: usize) -> Answer
     requires { ⌜ over s ≡ over t ⌝ }
-    ensures { λ r. ⌜ number r ≡ first (singleTests s t (now (a .entry)) n) ⌝ }
+    ensures { λ r. ⌜ word r ≡ first (singleTests s t (now (a .entry)) n) ⌝ }
 {
     if over(s) {
-        return Answer::TooLarge;
+        return Answer::Refused(Reason::TooLarge);
     }
     if either_unfit(s, t, a.len(), n) {
-        return Answer::LengthWrong;
+        return Answer::Refused(Reason::LengthWrong);
     }
-    fault(s, a)
+    fault(Buffer::First, s, a)
 }

@@ -2,8 +2,8 @@
 use mathlib.Core.Path.{_≡_}
 use mathlib.Core.List.{List}
 use Prim.Native.Nat.{ℕ}
-use Rattle.requests.proofs.AnswerLaws.{numbers-coincide}
+use Rattle.requests.proofs.WordLaws.{words-coincide}
 use Rattle.texts.specs.Multiply.{multiplyMeans}
 
 pub multiply-one : (text out : List ℕ) (n n′ : ℕ) (o o′ : List ℕ) → _≡_ {A = ℕ × List ℕ} (n, o) (multiplyMeans text out) → _≡_ {A = ℕ × List ℕ} (n′, o′) (multiplyMeans text out) → (n ≡ n′) × (o ≡ o′)
-multiply-one text out n n′ o o′ p q = numbers-coincide (multiplyMeans text out) n n′ o o′ p q
+multiply-one text out n n′ o o′ p q = words-coincide (multiplyMeans text out) n n′ o o′ p q

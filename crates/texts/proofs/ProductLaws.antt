@@ -8,10 +8,12 @@ use lib.Dec.{ltb, eqb}
 use lib.ListN.{length}
 use Rattle.buffers.specs.Buffer.{words}
 use Rattle.requests.specs.declared.Size.{Size}
-use Rattle.requests.specs.Answers.{first}
+use Rattle.requests.specs.declared.Buffer.the-variants.{First, Second}
+use Rattle.requests.specs.Answers.{numberIn, first}
 use Rattle.requests.specs.Sizes.{over}
-use Rattle.requests.specs.Faults.{faults}
+use Rattle.requests.specs.Faults.{faults, faultNumbers}
 use Rattle.requests.proofs.SizeLaws.{not-over, not-unfit}
+use Rattle.requests.proofs.NumberLaws.{first-number, pair-numbers}
 use Rattle.requests.proofs.AnswerLaws.{here, later, first-none, none-first, finished}
 use Rattle.matrix.specs.Job.{meant, tableSize, productSize, totalOf}
 use Rattle.matrix.specs.Misfit.{misfit}
@@ -39,10 +41,13 @@ module _ (x y : Size) (a b : List ℕ) (xr : x .rows ≤ 128) (xc : x .columns �
     unfolding misfit meant
     fit = rw (not-unfit x (length a) la, not-unfit y (length b) lb, not-unfit (tableSize y 4) t lt) (not-unfit (productSize x y) p lp)
 
-    pub product-tests : first (openingTests x y 0 a b t p) ≡ first (productTests x y a b)
+    -- a product's number is that of its own tests
+    pub product-tests : numberIn (first (openingTests x y 0 a b t p)) ≡ first (productTests x y a b)
     unfolding openingTests productTests
-    product-tests = later (over x || over y) 1 _ (rw x-small y-small) ∙ go (not (eqb (x .columns) (y .rows)))
+    product-tests =
+        first-number (openingTests x y 0 a b t p)
+        ∙ rw (pair-numbers First Second x y a b) (later (over x || over y) 1 _ (rw x-small y-small) ∙ go (not (eqb (x .columns) (y .rows))))
       where
-        go : (d : Bool) → first ((d, 2) ∷ (ltb 8 0, 3) ∷ (misfit x y (meant 0) (length a) (length b) t p, 4) ∷ (faults x a ++ faults y b)) ≡ first ((d, 2) ∷ (faults x a ++ faults y b))
+        go : (d : Bool) → first ((d, 2) ∷ (ltb 8 0, 3) ∷ (misfit x y (meant 0) (length a) (length b) t p, 4) ∷ (faultNumbers x a ++ faultNumbers y b)) ≡ first ((d, 2) ∷ (faultNumbers x a ++ faultNumbers y b))
         go true = here true 2 _ refl ∙ sym (here true 2 _ refl)
         go false = later false 2 _ refl ∙ later (ltb 8 0) 3 _ refl ∙ later (misfit x y (meant 0) (length a) (length b) t p) 4 _ fit ∙ sym (later false 2 _ refl)

@@ -7,7 +7,7 @@ use lib.ListN.{length, drop}
 use Rattle.buffers.specs.Buffer.{cell, encode}
 use Rattle.requests.specs.declared.Size.{Size}
 use Rattle.requests.specs.Answers.{Tests, first}
-use Rattle.requests.specs.Faults.{pairFaults}
+use Rattle.requests.specs.Faults.{faultNumbers}
 use Rattle.steps.specs.Matrix.{schoolbook}
 use Rattle.matrix.specs.Job.{meant, productSize, unmatched, totalOf}
 use Rattle.hex.specs.Line.{hexOf}
@@ -18,9 +18,9 @@ use Rattle.texts.specs.MatrixText.{linesOf, sizeIn, wordsIn, restOf, mat
 unfoldable pub formTests : List ℕ → Tests
 formTests text = matrixTests text ++ (matrixTests (restOf text) ++ ((ltb 0 (length (restOf (restOf text))), 10) ∷ []))
 
--- and after that 2, then 5 and 6
+-- and after that 2, then 5 and 6, whose places it does not print
 unfoldable pub productTests : Size → Size → List ℕ → List ℕ → Tests
-productTests x y a b = (unmatched x y, 2) ∷ pairFaults x y a b
+productTests x y a b = (unmatched x y, 2) ∷ (faultNumbers x a ++ faultNumbers y b)
 
 unfoldable pub multiplyTests : List ℕ → Tests
 multiplyTests text = formTests text ++ productTests (sizeIn text) (sizeIn (restOf text)) (wordsIn text) (wordsIn (restOf text))

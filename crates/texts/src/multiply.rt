@@ -3,7 +3,7 @@ ghost use mathlib.Core.Path.{_≡_};
 ghost use Prim.Native.Nat.{_≤_};
 ghost use lib.ListN.{length};
 ghost use Rattle.buffers.specs.Buffer.{words, cell, encode};
-ghost use Rattle.requests.specs.Answers.{number, first};
+ghost use Rattle.requests.specs.Answers.{word, numberIn, first};
 ghost use Rattle.steps.specs.Matrix.{schoolbook};
 ghost use Rattle.matrix.specs.Job.{meant, totalOf};
 ghost use Rattle.texts.specs.Multiply.{formTests, productTests, multiplyMeans};
@@ -15,8 +15,10 @@ use buffers::planes::planes;
 use matrix::product::product;
 use matrix::total::total;
 use requests::Answer;
+use requests::Reason;
 use requests::Size;
 use requests::number;
+use requests::word;
 
 // An answer, and the sizes of A and B.
 struct Form {
@@ -48,20 +50,20 @@ fn unread(f: Answer) -> Form
 // A, then B, then the end of the text.
 fn matrices(text: &[u8], a: &mut [u64], b: &mut [u64]) -> Form
     requires { ⌜ (length (now a) ≡ 512) × (length (now b) ≡ 512) ⌝ }
-    ensures { λ r. ⌜ (number (r .answer) ≡ first (formTests (now (text .entry)))) × (number (r .answer) ≡ 0 → Matrices (now (text .entry)) (r .x) (r .y) (now (a .exit)) (now (b .exit))) ⌝ }
+    ensures { λ r. ⌜ (word (r .answer) ≡ first (formTests (now (text .entry)))) × (word (r .answer) ≡ 0 → Matrices (now (text .entry)) (r .x) (r .y) (now (a .exit)) (now (b .exit))) ⌝ }
 {
     let x = matrix_in(text, 0, a);
     let f = x.answer;
-    if number(f) != 0 {
+    if word(f) != 0 {
         return unread(f);
     }
     let y = matrix_in(text, x.end, b);
     let g = y.answer;
-    if number(g) != 0 {
+    if word(g) != 0 {
         return unread(g);
     }
     if y.end < text.len() {
-        return unread(Answer::NotAFrame);
+        return unread(Answer::Refused(Reason::NotAFrame));
     }
     Form {
         answer: Answer::Done,
@@ -87,10 +89,10 @@ fn long(s: Size) -> usize
 // The product at width 0, and the exact total.
 fn made(x: Size, y: Size, a: &[u64], b: &[u64], table: &mut [u64], out: &mut [u64]) -> Outcome
     requires { ⌜ (x .rows ≤ 128) × (x .columns ≤ 128) × (y .rows ≤ 128) × (y .columns ≤ 128) × (length (now a) ≡ words (x .rows) (x .columns)) × (length (now b) ≡ words (y .rows) (y .columns)) × (length (now table) ≡ words 16 (y .columns)) × (length (now out) ≡ words (x .rows) (y .columns)) ⌝ }
-    ensures { λ r. ⌜ (number (r .answer) ≡ first (productTests x y (now (a .entry)) (now (b .entry)))) × (number (r .answer) ≡ 0 → (r .total ≡ totalOf x (meant 0) (now (a .entry))) × (now (out .exit) ≡ encode (x .rows) (y .columns) (schoolbook (x .columns) (cell (x .columns) (now (a .entry))) (cell (y .columns) (now (b .entry)))))) ⌝ }
+    ensures { λ r. ⌜ (numberIn (word (r .answer)) ≡ first (productTests x y (now (a .entry)) (now (b .entry)))) × (numberIn (word (r .answer)) ≡ 0 → (r .total ≡ totalOf x (meant 0) (now (a .entry))) × (now (out .exit) ≡ encode (x .rows) (y .columns) (schoolbook (x .columns) (cell (x .columns) (now (a .entry))) (cell (y .columns) (now (b .entry)))))) ⌝ }
 {
     let f = product(x, y, 0, a, b, table, out);
-    if number(f) != 0 {
+    if word(f) != 0 {
         return Outcome {
             answer: f,
             total: 0,
@@ -117,8 +119,8 @@ fn answer(
 {
     let form = matrices(text, a, b);
     let f = form.answer;
-    if number(f) != 0 {
-        return refuse(number(f), out);
+    if word(f) != 0 {
+        return refuse(word(f), out);
     }
     let x = form.x;
     let y = form.y;

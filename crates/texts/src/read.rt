@@ -4,7 +4,7 @@ ghost use mathlib.Core.Bool.{false};
 ghost use Prim.Native.Nat.{_+_, _*_, _≤_, _<_};
 ghost use lib.ListN.{length, take, drop};
 ghost use Rattle.buffers.specs.Buffer.{wide, words};
-ghost use Rattle.requests.specs.Answers.{number, first};
+ghost use Rattle.requests.specs.Answers.{word, first};
 ghost use Rattle.hex.specs.Line.{unframed};
 ghost use Rattle.frames.specs.RowLine.{lineLong, wordsOf};
 ghost use Rattle.texts.specs.MatrixText.{misread, wordsRead, above, sizeMeans, matrixTests};
@@ -14,7 +14,8 @@ use frames::header::Header;
 use frames::header::read_header;
 use frames::row_line::read_row;
 use requests::Answer;
-use requests::number;
+use requests::Reason;
+use requests::word;
 
 // An answer, the size that the header says, and the place in the text where what comes after the matrix begins.
 pub struct Taken {
@@ -37,24 +38,24 @@ fn above(rows: u64, columns: u64) -> bool
 // The header line of nine bytes that stands at a place of the text.
 pub fn size_in(text: &[u8], start: usize) -> Header
     requires { ⌜ start ≤ length (now text) ⌝ }
-    ensures { λ r. ⌜ (number (r .answer), (r .rows, r .columns)) ≡ sizeMeans (drop start (now (text .entry))) ⌝ }
+    ensures { λ r. ⌜ (word (r .answer), (r .rows, r .columns)) ≡ sizeMeans (drop start (now (text .entry))) ⌝ }
 {
     let end = start + 9;
     if end > text.len() {
         return Header {
-            answer: Answer::NotAFrame,
+            answer: Answer::Refused(Reason::NotAFrame),
             rows: 0,
             columns: 0,
         };
     }
     let h = read_header(&text[start..end]);
     let f = h.answer;
-    if number(f) != 0 {
+    if word(f) != 0 {
         return h;
     }
     if above(h.rows, h.columns) {
         return Header {
-            answer: Answer::AboveLimit,
+            answer: Answer::Refused(Reason::AboveLimit),
             rows: 0,
             columns: 0,
         };
@@ -72,7 +73,7 @@ fn row_in(text: &[u8], at: usize, columns: u64, line: usize, row: &mut [u64]) ->
         return true;
     }
     let f = read_row(columns, &text[at..end], row);
-    number(f) != 0
+    word(f) != 0
 }
 
 // The lines of all rows into their words: true where one of them is not the line of a row.
@@ -97,11 +98,11 @@ fn rows_in(text: &[u8], start: usize, rows: usize, columns: u64, held: &mut [u64
 // A matrix that stands at a place of the text, into the first words of a buffer.
 pub fn matrix_in(text: &[u8], start: usize, held: &mut [u64]) -> Taken
     requires { ⌜ (start ≤ length (now text)) × (length (now held) ≡ 512) ⌝ }
-    ensures { λ r. ⌜ (number (r .answer) ≡ first (matrixTests (drop start (now (text .entry))))) × (number (r .answer) ≡ 0 → Found (now (text .entry)) start (r .rows) (r .columns) (r .end) (now (held .entry)) (now (held .exit))) ⌝ }
+    ensures { λ r. ⌜ (word (r .answer) ≡ first (matrixTests (drop start (now (text .entry))))) × (word (r .answer) ≡ 0 → Found (now (text .entry)) start (r .rows) (r .columns) (r .end) (now (held .entry)) (now (held .exit))) ⌝ }
 {
     let h = size_in(text, start);
     let f = h.answer;
-    if number(f) != 0 {
+    if word(f) != 0 {
         return Taken {
             answer: f,
             rows: 0,
@@ -114,7 +115,7 @@ pub fn matrix_in(text: &[u8], start: usize, held: &mut [u64]) -> Taken
     let n = r * w;
     if rows_in(text, start + 9, r, h.columns, &mut held[0..n]) {
         return Taken {
-            answer: Answer::NotAFrame,
+            answer: Answer::Refused(Reason::NotAFrame),
             rows: 0,
             columns: 0,
             end: start,

@@ -10,7 +10,7 @@ use super::read::size_in;
 use buffers::planes::planes;
 use hex::line::undigit;
 use hex::line::unframed;
-use requests::number;
+use requests::word;
 
 // Whether a matrix stops the reading, and the place in the text where what comes after it begins.
 struct Looked {
@@ -76,7 +76,7 @@ fn matrix_stops(text: &[u8], start: usize) -> Looked
     }
     let h = size_in(text, start);
     let f = h.answer;
-    if number(f) != 0 {
+    if word(f) != 0 {
         return Looked {
             stops: true,
             end: start,

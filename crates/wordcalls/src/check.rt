@@ -2,7 +2,7 @@
 ghost use Rattle.requests.specs.Exact.{Numbered};
 ghost use Rattle.matrix.specs.Check.{checkTests};
 use requests::Size;
-use requests::number;
+use requests::word;
 
 #[no_mangle]
 pub extern "C" fn call_check(rows: u64, columns: u64, a: &[u64]) -> u64
@@ -12,5 +12,5 @@ pub extern "C" fn call_check(rows: u64, columns: u64, a: &[u64]) -> u64
         rows: rows,
         columns: columns,
     };
-    number(matrix::check::check(s, a))
+    word(matrix::check::check(s, a))
 }

@@ -6,7 +6,7 @@ ghost use Rattle.buffers.specs.Shows.{Shows};
 ghost use Rattle.requests.specs.Exact.{Seen};
 ghost use Rattle.requests.specs.Pair.{pairTests};
 use requests::Size;
-use requests::number;
+use requests::word;
 
 #[no_mangle]
 pub extern "C" fn call_difference(
@@ -28,5 +28,5 @@ pub extern "C" fn call_difference(
         rows: b_rows,
         columns: b_columns,
     };
-    number(matrix::difference::difference(x, y, a, b, out))
+    word(matrix::difference::difference(x, y, a, b, out))
 }

@@ -6,7 +6,7 @@ ghost use Rattle.buffers.specs.Shows.{Shows};
 ghost use Rattle.requests.specs.Exact.{Seen};
 ghost use Rattle.requests.specs.Single.{singleTests};
 use requests::Size;
-use requests::number;
+use requests::word;
 
 #[no_mangle]
 pub extern "C" fn call_negation(rows: u64, columns: u64, a: &[u64], out: &mut [u64]) -> u64
@@ -16,5 +16,5 @@ pub extern "C" fn call_negation(rows: u64, columns: u64, a: &[u64], out: &mut [u
         rows: rows,
         columns: columns,
     };
-    number(matrix::negation::negation(s, a, out))
+    word(matrix::negation::negation(s, a, out))
 }

@@ -1,12 +1,11 @@
-// What a host sees after an opening: the record as seven words, of which the last two are 0, and table and product.
-ghost use mathlib.Core.Bool.{false};
+// What a host sees after an opening: the record as seven words, of which the last two are 0, and table and product. A refused one has no record, and
+// leaves the seven words as they were.
 ghost use lib.ListN.{length};
 ghost use Rattle.requests.specs.Exact.{Seen};
-ghost use Rattle.matrix.specs.Opening.{openingTests, noJob};
-ghost use Rattle.matrix.specs.Record.{recordOf};
+ghost use Rattle.matrix.specs.Opening.{openingTests};
 ghost use Rattle.wordcalls.specs.Opening.{Opened};
 use requests::Size;
-use requests::number;
+use requests::reason_word;
 
 #[no_mangle]
 pub extern "C" fn call_opening(
@@ -21,7 +20,7 @@ pub extern "C" fn call_opening(
     product: &mut [u64],
     job: &mut [u64; 7],
 ) -> u64
-    ensures { λ r. ⌜ Seen (openingTests (record { rows = «a_rows»; columns = «a_columns» }) (record { rows = «b_rows»; columns = «b_columns» }) width (now (a .entry)) (now (b .entry)) (length (now (table .entry))) (length (now (product .entry)))) (recordOf noJob 0 false, (now (table .entry), now (product .entry))) (Opened (record { rows = «a_rows»; columns = «a_columns» }) (record { rows = «b_rows»; columns = «b_columns» }) width) r (now (job .exit), (now (table .exit), now (product .exit))) ⌝ }
+    ensures { λ r. ⌜ Seen (openingTests (record { rows = «a_rows»; columns = «a_columns» }) (record { rows = «b_rows»; columns = «b_columns» }) width (now (a .entry)) (now (b .entry)) (length (now (table .entry))) (length (now (product .entry)))) (now (job .entry), (now (table .entry), now (product .entry))) (Opened (record { rows = «a_rows»; columns = «a_columns» }) (record { rows = «b_rows»; columns = «b_columns» }) width) r (now (job .exit), (now (table .exit), now (product .exit))) ⌝ }
 {
     let x = Size {
         rows: a_rows,
@@ -32,8 +31,11 @@ pub extern "C" fn call_opening(
         columns: b_columns,
     };
     let opened = matrix::opening::opening(x, y, width, a, b, table, product);
-    let new = opened.job;
-    *job = [new.m, new.l, new.n, new.width, new.done, 0, 0];
-    let answer = opened.answer;
-    number(answer)
+    match opened {
+        matrix::opening::Opened::Done(new) => {
+            *job = [new.m, new.l, new.n, new.width, new.done, 0, 0];
+            0
+        }
+        matrix::opening::Opened::Refused(why) => reason_word(why),
+    }
 }

@@ -5,7 +5,7 @@ ghost use Rattle.buffers.specs.Shows.{Shows};
 ghost use Rattle.requests.specs.Exact.{Seen};
 ghost use Rattle.matrix.specs.Pack.{packTests};
 use requests::Size;
-use requests::number;
+use requests::word;
 
 #[no_mangle]
 pub extern "C" fn call_pack(rows: u64, columns: u64, cells: &[u8], out: &mut [u64]) -> u64
@@ -15,5 +15,5 @@ pub extern "C" fn call_pack(rows: u64, columns: u64, cells: &[u8], out: &mut [u6
         rows: rows,
         columns: columns,
     };
-    number(matrix::pack::pack(s, cells, out))
+    word(matrix::pack::pack(s, cells, out))
 }

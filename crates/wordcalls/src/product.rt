@@ -10,7 +10,7 @@ ghost use Rattle.matrix.specs.Job.{meant};
 ghost use Rattle.matrix.specs.Opening.{openingTests};
 ghost use Rattle.matrix.specs.Product.{endOf};
 use requests::Size;
-use requests::number;
+use requests::word;
 
 #[no_mangle]
 pub extern "C" fn call_product(
@@ -34,5 +34,5 @@ pub extern "C" fn call_product(
         rows: b_rows,
         columns: b_columns,
     };
-    number(matrix::product::product(x, y, width, a, b, table, product))
+    word(matrix::product::product(x, y, width, a, b, table, product))
 }

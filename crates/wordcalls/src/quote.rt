@@ -4,7 +4,7 @@ ghost use Rattle.steps.specs.Count.{quote};
 ghost use Rattle.matrix.specs.Job.{meant};
 ghost use Rattle.matrix.specs.Quote.{quoteTests};
 use requests::Size;
-use requests::number;
+use requests::word;
 
 #[no_mangle]
 pub extern "C" fn call_quote(rows: u64, columns: u64, width: u64, count: &mut u64) -> u64
@@ -17,5 +17,5 @@ pub extern "C" fn call_quote(rows: u64, columns: u64, width: u64, count: &mut u6
     let counted = matrix::quote::quote(s, width);
     *count = counted.steps;
     let answer = counted.answer;
-    number(answer)
+    word(answer)
 }

@@ -6,7 +6,7 @@ ghost use Rattle.buffers.specs.Shows.{Shows};
 ghost use Rattle.requests.specs.Exact.{Seen};
 ghost use Rattle.matrix.specs.Scaling.{scalingTests};
 use requests::Size;
-use requests::number;
+use requests::word;
 
 #[no_mangle]
 pub extern "C" fn call_scaling(rows: u64, columns: u64, d: u8, a: &[u64], out: &mut [u64]) -> u64
@@ -16,5 +16,5 @@ pub extern "C" fn call_scaling(rows: u64, columns: u64, d: u8, a: &[u64], out: &
         rows: rows,
         columns: columns,
     };
-    number(matrix::scaling::scaling(s, d, a, out))
+    word(matrix::scaling::scaling(s, d, a, out))
 }

@@ -6,7 +6,7 @@ ghost use Rattle.buffers.specs.Shows.{Shows};
 ghost use Rattle.requests.specs.Exact.{Seen};
 ghost use Rattle.requests.specs.Pair.{pairTests};
 use requests::Size;
-use requests::number;
+use requests::word;
 
 #[no_mangle]
 pub extern "C" fn call_sum(
@@ -28,5 +28,5 @@ pub extern "C" fn call_sum(
         rows: b_rows,
         columns: b_columns,
     };
-    number(matrix::sum::sum(x, y, a, b, out))
+    word(matrix::sum::sum(x, y, a, b, out))
 }

@@ -6,7 +6,7 @@ ghost use Rattle.buffers.specs.Buffer.{cell};
 ghost use Rattle.rows.specs.Tally.{columnsWith};
 ghost use Rattle.requests.specs.Exact.{Exact};
 ghost use Rattle.matrix.specs.Check.{checkTests};
-use requests::number;
+use requests::word;
 
 #[no_mangle]
 pub extern "C" fn call_tally(columns: u64, a: &[u64], out: &mut [u64; 4]) -> u64
@@ -17,5 +17,5 @@ pub extern "C" fn call_tally(columns: u64, a: &[u64], out: &mut [u64; 4]) -> u64
     let balanced = t.balanced as u64;
     *out = [counts[0], counts[1], counts[2], balanced];
     let answer = t.answer;
-    number(answer)
+    word(answer)
 }

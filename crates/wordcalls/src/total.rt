@@ -9,7 +9,7 @@ ghost use Rattle.steps.specs.Count.{quote};
 ghost use Rattle.matrix.specs.Job.{meant};
 ghost use Rattle.matrix.specs.Total.{totalTests};
 use requests::Size;
-use requests::number;
+use requests::word;
 
 #[no_mangle]
 pub extern "C" fn call_total(rows: u64, columns: u64, width: u64, a: &[u64], count: &mut u64) -> u64
@@ -22,5 +22,5 @@ pub extern "C" fn call_total(rows: u64, columns: u64, width: u64, a: &[u64], cou
     let counted = matrix::total::total(s, width, a);
     *count = counted.steps;
     let answer = counted.answer;
-    number(answer)
+    word(answer)
 }

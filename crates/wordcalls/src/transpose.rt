@@ -5,7 +5,7 @@ ghost use Rattle.buffers.specs.Shows.{Shows};
 ghost use Rattle.requests.specs.Exact.{Seen};
 ghost use Rattle.requests.specs.Single.{singleTests};
 use requests::Size;
-use requests::number;
+use requests::word;
 
 #[no_mangle]
 pub extern "C" fn call_transpose(rows: u64, columns: u64, a: &[u64], out: &mut [u64]) -> u64
@@ -15,5 +15,5 @@ pub extern "C" fn call_transpose(rows: u64, columns: u64, a: &[u64], out: &mut [
         rows: rows,
         columns: columns,
     };
-    number(matrix::transpose::transpose(s, a, out))
+    word(matrix::transpose::transpose(s, a, out))
 }

@@ -1,11 +1,11 @@
 // What a host sees after a turn: the record as seven words, the last two the steps made and 1 if the list has ended, else 0, and table and product.
-ghost use mathlib.Core.Bool.{false};
+// A refused one has no record, and leaves the seven words as they were.
 ghost use Rattle.requests.specs.Exact.{Seen};
 ghost use Rattle.matrix.specs.Turn.{turnTests};
-ghost use Rattle.matrix.specs.Record.{jobIn, recordOf};
+ghost use Rattle.matrix.specs.Record.{jobIn};
 ghost use Rattle.wordcalls.specs.Turn.{Turned};
 use matrix::job::Job;
-use requests::number;
+use requests::reason_word;
 
 #[no_mangle]
 pub extern "C" fn call_turn(
@@ -16,7 +16,7 @@ pub extern "C" fn call_turn(
     product: &mut [u64],
     budget: u32,
 ) -> u64
-    ensures { λ r. ⌜ Seen (turnTests (jobIn (now (job .entry))) (now (a .entry)) (now (b .entry)) (now (table .entry)) (now (product .entry))) (recordOf (jobIn (now (job .entry))) 0 false, (now (table .entry), now (product .entry))) (Turned (jobIn (now (job .entry))) (now (a .entry)) (now (b .entry)) (now (table .entry)) (now (product .entry)) budget) r (now (job .exit), (now (table .exit), now (product .exit))) ⌝ }
+    ensures { λ r. ⌜ Seen (turnTests (jobIn (now (job .entry))) (now (a .entry)) (now (b .entry)) (now (table .entry)) (now (product .entry))) (now (job .entry), (now (table .entry), now (product .entry))) (Turned (jobIn (now (job .entry))) (now (a .entry)) (now (b .entry)) (now (table .entry)) (now (product .entry)) budget) r (now (job .exit), (now (table .exit), now (product .exit))) ⌝ }
 {
     let found = Job {
         m: job[0],
@@ -26,17 +26,16 @@ pub extern "C" fn call_turn(
         done: job[4],
     };
     let turned = matrix::turn::turn(found, a, b, table, product, budget);
-    let next = turned.job;
-    let ended = turned.finished as u64;
-    *job = [
-        next.m,
-        next.l,
-        next.n,
-        next.width,
-        next.done,
-        turned.made,
-        ended,
-    ];
-    let answer = turned.answer;
-    number(answer)
+    match turned {
+        matrix::turn::Turned::Done {
+            job: next,
+            made,
+            finished,
+        } => {
+            let ended = finished as u64;
+            *job = [next.m, next.l, next.n, next.width, next.done, made, ended];
+            0
+        }
+        matrix::turn::Turned::Refused(why) => reason_word(why),
+    }
 }

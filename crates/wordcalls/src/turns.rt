@@ -1,21 +1,20 @@
-// A job that is opened and given one turn after another, a budget each, with nothing else between them.
+// A job that is opened and given one turn after another, a budget each, with nothing else between them. A refused turn would end it: the contract says
+// that there is none.
 ghost use Prim.Native.Nat.{_≤_, min};
 ghost use lib.ListN.{length};
 ghost use Rattle.buffers.specs.Buffer.{Legal};
-ghost use Rattle.requests.specs.Answers.{number};
 ghost use Rattle.requests.specs.Exact.{Seen};
 ghost use Rattle.steps.specs.Turn.{allBudgets};
 ghost use Rattle.matrix.specs.Job.{meant, totalOf};
-ghost use Rattle.matrix.specs.Opening.{openingTests, noJob};
+ghost use Rattle.matrix.specs.Opening.{openingTests, noJob, opened};
 ghost use Rattle.matrix.specs.Stands.{Stands};
 ghost use Rattle.wordcalls.specs.Turns.{Reached};
 use matrix::job::Job;
 use matrix::opening::Opened;
 use matrix::opening::opening;
+use matrix::turn::Turned;
 use matrix::turn::turn;
-use requests::Answer;
 use requests::Size;
-use requests::number;
 
 fn turns(
     a_rows: u64,
@@ -37,8 +36,17 @@ fn turns(
     let mut i = 0;
     while i < budgets.len() {
         let turned = turn(job, a, b, table, product, budgets[i]);
-        job = turned.job;
-        i += 1;
+        match turned {
+            Turned::Done {
+                job: next,
+                made: _,
+                finished: _,
+            } => {
+                job = next;
+                i += 1;
+            }
+            Turned::Refused(_) => return job,
+        }
     }
     job
 }
@@ -55,7 +63,7 @@ pub fn in_turns(
     product: &mut [u64],
     budgets: &[u32],
 ) -> Opened
-    ensures { λ r. ⌜ Seen (openingTests (record { rows = «a_rows»; columns = «a_columns» }) (record { rows = «b_rows»; columns = «b_columns» }) width (now (a .entry)) (now (b .entry)) (length (now (table .entry))) (length (now (product .entry)))) (noJob, (now (table .entry), now (product .entry))) (Reached (record { rows = «a_rows»; columns = «a_columns» }) (record { rows = «b_rows»; columns = «b_columns» }) (meant width) (now (a .entry)) (now (b .entry)) (allBudgets (now (budgets .entry)))) (number (r .answer)) (r .job, (now (table .exit), now (product .exit))) ⌝ }
+    ensures { λ r. ⌜ Seen (openingTests (record { rows = «a_rows»; columns = «a_columns» }) (record { rows = «b_rows»; columns = «b_columns» }) width (now (a .entry)) (now (b .entry)) (length (now (table .entry))) (length (now (product .entry)))) (noJob, (now (table .entry), now (product .entry))) (Reached (record { rows = «a_rows»; columns = «a_columns» }) (record { rows = «b_rows»; columns = «b_columns» }) (meant width) (now (a .entry)) (now (b .entry)) (allBudgets (now (budgets .entry)))) (opened r (now (table .exit)) (now (product .exit)) .0) (opened r (now (table .exit)) (now (product .exit)) .1) ⌝ }
 {
     let x = Size {
         rows: a_rows,
@@ -66,26 +74,23 @@ pub fn in_turns(
         columns: b_columns,
     };
     let opened = opening(x, y, width, a, b, table, product);
-    let f = opened.answer;
-    if number(f) != 0 {
-        return opened;
-    }
-    let new = opened.job;
-    let last = turns(
-        a_rows,
-        a_columns,
-        b_rows,
-        b_columns,
-        width,
-        new,
-        a,
-        b,
-        table,
-        product,
-        budgets,
-    );
-    Opened {
-        answer: Answer::Done,
-        job: last,
+    match opened {
+        Opened::Done(new) => {
+            let last = turns(
+                a_rows,
+                a_columns,
+                b_rows,
+                b_columns,
+                width,
+                new,
+                a,
+                b,
+                table,
+                product,
+                budgets,
+            );
+            Opened::Done(last)
+        }
+        Opened::Refused(why) => Opened::Refused(why),
     }
 }

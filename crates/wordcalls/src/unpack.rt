@@ -5,7 +5,7 @@ ghost use Rattle.requests.specs.Exact.{Seen};
 ghost use Rattle.matrix.specs.Unpacked.{Unpacks};
 ghost use Rattle.matrix.specs.Unpack.{unpackTests};
 use requests::Size;
-use requests::number;
+use requests::word;
 
 #[no_mangle]
 pub extern "C" fn call_unpack(rows: u64, columns: u64, a: &[u64], out: &mut [u8]) -> u64
@@ -15,5 +15,5 @@ pub extern "C" fn call_unpack(rows: u64, columns: u64, a: &[u64], out: &mut [u8]
         rows: rows,
         columns: columns,
     };
-    number(matrix::unpack::unpack(s, a, out))
+    word(matrix::unpack::unpack(s, a, out))
 }

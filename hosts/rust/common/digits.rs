@@ -82,27 +82,37 @@ pub fn words_of_plane(columns: usize) -> usize {
     columns / 64 + if columns % 64 == 0 { 0 } else { 1 }
 }
 
-/// Whether a real column holds sign without unit, and whether a padding bit is set.
-pub fn faults(rows: usize, columns: usize, words: &[u64]) -> (bool, bool) {
+/// Row and column of a place, which may be beyond the last column.
+pub type At = (usize, usize);
+
+/// The places where a real column holds sign without unit, and those where a padding bit is set: row by row, and in a row column by column.
+pub fn faulty(rows: usize, columns: usize, words: &[u64]) -> (Vec<At>, Vec<At>) {
     let q = words_of_plane(columns);
-    let mut stray = false;
-    let mut padded = false;
+    let mut stray = Vec::new();
+    let mut padded = Vec::new();
     for i in 0..rows {
         for j in 0..64 * q {
             let unit = words[i * 2 * q + j / 64] >> (j % 64) & 1 == 1;
             let sign = words[i * 2 * q + q + j / 64] >> (j % 64) & 1 == 1;
-            if j < columns {
-                stray |= sign && !unit;
-            } else {
-                padded |= sign || unit;
+            if j < columns && sign && !unit {
+                stray.push((i, j));
+            }
+            if j >= columns && (sign || unit) {
+                padded.push((i, j));
             }
         }
     }
     (stray, padded)
 }
 
+/// Whether there is the one, and whether there is the other.
+pub fn faults(rows: usize, columns: usize, words: &[u64]) -> (bool, bool) {
+    let (stray, padded) = faulty(rows, columns, words);
+    (!stray.is_empty(), !padded.is_empty())
+}
+
 /// Sets the two bits of one place, which may be a padding place.
-pub fn put(columns: usize, words: &mut [u64], (i, j): (usize, usize), (unit, sign): (bool, bool)) {
+pub fn put(columns: usize, words: &mut [u64], (i, j): At, (unit, sign): (bool, bool)) {
     let q = words_of_plane(columns);
     let bit = 1u64 << (j % 64);
     for (plane, on) in [(0, unit), (1, sign)] {

@@ -1,4 +1,4 @@
-// What a host sees after an opening and a turn for each of some budgets. A refused turn would end it with the turn's number: the contract says
+// What a host sees after an opening and a turn for each of some budgets. A refused turn would end it with the turn's word: the contract says
 // that none is refused, since after an accepted opening only 0 comes back.
 ghost use lib.ListN.{length};
 ghost use Rattle.requests.specs.Exact.{Seen};

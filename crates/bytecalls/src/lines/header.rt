@@ -1,7 +1,7 @@
 // What a host sees after a header line is read, and after one is written.
 ghost use Prim.Native.Nat.{ℕ};
 ghost use lib.ListN.{length};
-ghost use Rattle.requests.specs.Answers.{number};
+ghost use Rattle.requests.specs.Answers.{word};
 ghost use Rattle.requests.specs.Exact.{Seen, Exact};
 ghost use Rattle.frames.specs.Header.{headerOf, readHeaderTests, writeHeaderTests};
 ghost use Rattle.bytecalls.specs.Lines.{HeaderRead};
@@ -9,10 +9,10 @@ use frames::header::Header;
 use frames::header::read_header;
 use frames::header::write_header;
 use requests::Size;
-use requests::number;
+use requests::word;
 
 pub fn seen_read_header(line: &[u8]) -> Header
-    ensures { λ r. ⌜ Seen {S = ℕ × ℕ} (readHeaderTests (now (line .entry))) (0, 0) (HeaderRead (now (line .entry))) (number (r .answer)) (r .rows, r .columns) ⌝ }
+    ensures { λ r. ⌜ Seen {S = ℕ × ℕ} (readHeaderTests (now (line .entry))) (0, 0) (HeaderRead (now (line .entry))) (word (r .answer)) (r .rows, r .columns) ⌝ }
 {
     read_header(line)
 }
@@ -24,5 +24,5 @@ pub fn seen_write_header(rows: u64, columns: u64, line: &mut [u8]) -> u64
         rows: rows,
         columns: columns,
     };
-    number(write_header(s, line))
+    word(write_header(s, line))
 }

@@ -15,6 +15,8 @@ const ELSEWHERE: &str = "FILE: the job of another site";
 const HEAD: &str = "FILE: its head and its record do not agree";
 const ANOTHER: &str = "SITE: the file holds another job than the site's";
 const LEDGER: &str = "SITE: file and ledger do not agree";
+const TABLE_CELL: &str = "SITE: a turn was refused with number 5: row 10, column 62 of the table has a sign without unit";
+const PRODUCT_CELL: &str = "SITE: a turn was refused with number 5: row 10, column 62 of the product has a sign without unit";
 
 pub enum Make {
     /// Other words and buffers, in a file of the form.
@@ -37,16 +39,18 @@ pub enum Site {
 pub enum Judged {
     /// Refused with one of these.
     Said(&'static [&'static str]),
+    /// Refused with one of these by the next turn; a finished job has none, and either answer can be right.
+    Turned(&'static [&'static str]),
     Well,
     /// Nothing may depend on what was damaged, so either answer can be right.
     Either,
 }
 
-use Judged::{Either, Said, Well};
+use Judged::{Either, Said, Turned, Well};
 use Make::{Bytes, File, Folder, Nothing, Others};
 use Site::{Any, Largest};
 
-pub const KINDS: [(&str, Make, Site, Judged); 41] = [
+pub const KINDS: [(&str, Make, Site, Judged); 43] = [
     ("another length", File(length), Any, Said(&[LENGTH])),
     ("bytes of one buffer counted to another", File(moved), Any, Said(&[LENGTH])),
     ("lengths whose sum is right once it has wrapped", File(wrapped), Any, Said(&[LENGTH])),
@@ -85,6 +89,8 @@ pub const KINDS: [(&str, Make, Site, Judged); 41] = [
     ("a folder for a file", Folder, Any, Said(&["FILE: not a file"])),
     ("no file", Nothing, Any, Said(&["SITE: it has no file, and turns in the ledger"])),
     ("a file as it was", File(|_, _| {}), Any, Well),
+    ("signs without unit in the table", File(|random, file| stray(random, file, TABLE)), Largest, Turned(&[TABLE_CELL])),
+    ("signs without unit in the product", File(|random, file| stray(random, file, PRODUCT)), Largest, Turned(&[PRODUCT_CELL])),
     ("bytes of the table", File(|random, file| any_in(random, file, TABLE)), Largest, Either),
     ("bytes of the product", File(|random, file| any_in(random, file, PRODUCT)), Largest, Either),
     ("bytes anywhere", Bytes(anywhere), Any, Either),
@@ -113,7 +119,8 @@ pub fn damage(random: &mut Random, nth: usize, held: &Held) -> Result<Case, Stri
         held.remove(&name(site));
     }
     let verdict = match judged {
-        Said(texts) => {
+        Turned(_) if file.record(ENDED) == 1 => Verdict::Either,
+        Said(texts) | Turned(texts) => {
             let said = |text: &&str| text.replace("FILE", &name(site)).replace("SITE", &format!("site {site}"));
             Verdict::Refused(texts.iter().map(said).collect())
         }
@@ -276,6 +283,16 @@ fn behind(_: &mut Random, file: &mut JobFile) {
 fn bit(random: &mut Random, file: &mut JobFile, buffer: usize) {
     let at = random.below(file.parts[buffer].len());
     file.parts[buffer][at] ^= 1 << random.below(8);
+}
+
+/// Signs without unit: one in row 10, column 62, as the store counts them, and one somewhere below. A row is one word a plane.
+fn stray(random: &mut Random, file: &mut JobFile, buffer: usize) {
+    let below = 10 + random.below(file.parts[buffer].len() / 16 - 10);
+    for (row, column) in [(9, 61), (below, random.below(64))] {
+        let (unit, bit) = (16 * row + column / 8, 1 << (column % 8));
+        file.parts[buffer][unit] &= !bit;
+        file.parts[buffer][unit + 8] |= bit;
+    }
 }
 
 fn any_in(random: &mut Random, file: &mut JobFile, buffer: usize) {

@@ -26,6 +26,20 @@ impl Name {
         matches!(self, Name::Open | Name::Turn)
     }
 
+    /// The buffers whose cells it looks at.
+    pub fn looks_at(self) -> usize {
+        match self {
+            Name::Check | Name::Negation => 1,
+            Name::Turn => 4,
+            _ => 2,
+        }
+    }
+
+    /// The numbers with a place that the call can give, each with a buffer.
+    pub fn places(self) -> Vec<(u8, usize)> {
+        (1..=self.looks_at()).flat_map(|buffer| [(5, buffer), (6, buffer)]).collect()
+    }
+
     /// The numbers that the call can give, by document 01.
     pub fn numbers(self) -> &'static [u8] {
         match self {

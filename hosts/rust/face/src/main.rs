@@ -1,10 +1,12 @@
 //! A Rust host of the C face. It links the archive, wraps the calls safely, and compares every call with an implementation of its own that shares
-//! no code with the library: number, record and every buffer byte for byte, guard bytes about them too, refused or not.
+//! no code with the library: the word with its number and its place, record and every buffer byte for byte, guard bytes about them too, refused or
+//! not.
 //!
 //!     face [--count N] [--seed S]
 //!
 //! It counts how often each number came from each call, and which numbers stood behind others: a pair 4<5 means that a call with both faults was
-//! answered 4. A number that a call can give and never gave, any difference, and no call at all end it with status 1.
+//! answered 4. It counts places too, by buffer and of several kinds. A number or a place that a call can give and never gave, any difference, and
+//! no call at all end it with status 1.
 
 mod call;
 #[path = "../../common/counts.rs"]
@@ -20,6 +22,10 @@ mod meaning;
 mod options;
 #[path = "../../common/random.rs"]
 mod random;
+#[path = "../../common/refusals.rs"]
+mod refusals;
+#[path = "../../common/spoil.rs"]
+mod spoil;
 mod trial;
 
 use call::{words, Call, Name, NAMES};
@@ -29,12 +35,12 @@ use random::Random;
 use std::process::exit;
 use trial::{carry_out, Trial};
 
-/// So many calls meet every number of every call.
+/// So many calls meet every number of every call, in every buffer that it looks at, and places of all kinds.
 const ENOUGH: u64 = 20_000;
 
 /// Takes in one call; `place` says which it was.
 fn take(counts: &mut Counts, place: &str, call: &Call, trial: &Trial) {
-    counts.take(call.name as usize, &trial.numbers);
+    counts.take(call.name as usize, &trial.refusals);
     if !trial.wrong.is_empty() {
         counts.differs(|| format!("{place}: {call:02x?}\n  {}", trial.wrong.join("\n  ")));
     }
@@ -99,8 +105,10 @@ fn main() {
 fn summary(counts: &Counts, jobs: u64) -> i32 {
     let mut never = Vec::new();
     for name in NAMES {
-        never.extend(counts.print(name as usize, name.text(), name.numbers()));
+        never.extend(counts.print(name as usize, name.text(), name.numbers(), &name.places()));
     }
+    // No row here has a second word.
+    never.extend(counts.print_places(&[5, 6], refusals::KINDS.len() - 1));
     let missing = counts.calls >= ENOUGH && !never.is_empty();
     if missing {
         println!("never met: {}", never.join(", "));

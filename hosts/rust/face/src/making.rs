@@ -1,9 +1,11 @@
-//! Calls made from a seed: legal ones, and ones with one, two or three faults at once, so that the order of refusals is seen.
+//! Calls made from a seed: legal ones, and ones with one, two or three faults at once, so that the order of refusals is seen. Cells are wrong at one
+//! place or at several, so that the first place is seen too.
 
 use crate::call::{bytes, words, Call, Name, NAMES};
-use crate::digits::{list, put, words_of_plane, Digits};
+use crate::digits::{list, words_of_plane, Digits};
 use crate::guard::noise;
 use crate::random::Random;
+use crate::spoil;
 
 const SIZES: [u64; 10] = [0, 1, 2, 3, 5, 8, 31, 63, 64, 64];
 const BIG: [u64; 10] = [65, 66, 128, 1023, 1024, 1025, 1 << 32, 1 << 63, u64::MAX, (1 << 32) + 1];
@@ -17,18 +19,20 @@ enum Fault {
     Length,
     Stray,
     Padding,
+    Cells,
     Noise,
     Steps,
     RecordLength,
 }
 
-const FAULTS: [Fault; 9] = [
+const FAULTS: [Fault; 10] = [
     Fault::Count,
     Fault::Misfit,
     Fault::Width,
     Fault::Length,
     Fault::Stray,
     Fault::Padding,
+    Fault::Cells,
     Fault::Noise,
     Fault::Steps,
     Fault::RecordLength,
@@ -137,8 +141,9 @@ pub fn single(random: &mut Random) -> Call {
     call.shared = shared;
     for fault in &faults {
         match fault {
-            Fault::Stray => cell(random, &mut call, &plan, true),
-            Fault::Padding => cell(random, &mut call, &plan, false),
+            Fault::Stray => cells(random, &mut call, &plan, true),
+            Fault::Padding => cells(random, &mut call, &plan, false),
+            Fault::Cells => many_cells(random, &mut call, &plan),
             Fault::Noise if random.once_in(2) => {
                 let length = any_buffer(random, &mut call).len();
                 *any_buffer(random, &mut call) = noise(random, length);
@@ -247,37 +252,41 @@ fn new_length(random: &mut Random, buffer: &mut Vec<u8>) {
     buffer.resize(then, random.word() as u8);
 }
 
-/// Sets sign without unit in a real column, or a padding bit, of a buffer that has such a place.
-fn cell(random: &mut Random, call: &mut Call, plan: &Plan, stray: bool) {
+/// Sets signs without unit in real columns, or padding bits, of a buffer that the call looks at.
+fn cells(random: &mut Random, call: &mut Call, plan: &Plan, stray: bool) {
+    let number = 1 + random.below(call.name.looks_at());
+    cells_of(random, call, plan, number, stray);
+}
+
+/// Both, in half of the buffers that it looks at.
+fn many_cells(random: &mut Random, call: &mut Call, plan: &Plan) {
+    for number in 1..=call.name.looks_at() {
+        for stray in [true, false] {
+            if random.once_in(2) {
+                cells_of(random, call, plan, number, stray);
+            }
+        }
+    }
+}
+
+/// A buffer that has no such place, or not the length of its matrix, stays as it is.
+fn cells_of(random: &mut Random, call: &mut Call, plan: &Plan, number: usize, stray: bool) {
     let (m, l, n) = (plan.a_size.0, plan.a_size.1, call.b_size.1);
-    let turn = call.name == Name::Turn;
-    let table_rows = plan.table_rows();
-    let (buffer, rows, columns) = match random.below(4) {
-        1 if call.name.has_b() && !call.shared => (&mut call.b, call.b_size.0, n),
-        2 if turn => (&mut call.table, table_rows, n),
-        3 if turn => (&mut call.product, m, n),
+    let (buffer, rows, columns) = match number {
+        2 if !call.shared => (&mut call.b, call.b_size.0, n),
+        3 => (&mut call.table, plan.table_rows(), n),
+        4 => (&mut call.product, m, n),
         _ => (&mut call.a, m, l),
     };
-    if rows > 1024 || columns > 1024 || rows == 0 || columns == 0 {
+    if rows > 1024 || columns > 1024 {
         return;
     }
     let (rows, columns) = (rows as usize, columns as usize);
-    let q = words_of_plane(columns);
     let mut held = words(buffer);
-    if held.len() != 2 * q * rows {
-        return;
+    if held.len() == 2 * words_of_plane(columns) * rows {
+        spoil::cells(random, (rows, columns), &mut held, stray);
+        *buffer = bytes(&held);
     }
-    let i = random.below(rows);
-    let j = if stray {
-        random.below(columns)
-    } else if columns % 64 == 0 {
-        return;
-    } else {
-        columns + random.below(64 * q - columns)
-    };
-    let bits = if stray { (false, true) } else { random.of(&[(true, false), (false, true), (true, true)]) };
-    put(columns, &mut held, (i, j), bits);
-    *buffer = bytes(&held);
 }
 
 /// The opening of a job; the turns follow with what it leaves.

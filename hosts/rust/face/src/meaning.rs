@@ -3,68 +3,62 @@
 
 use crate::call::{bytes, words, Call, Name, Written};
 use crate::digits::{faults, list, product, walk, words_of_plane, Digits};
+use crate::refusals::{of_cells, Refusal};
 
-/// Every number whose test holds, in document 01's order; the first is the answer, none means done. A test that needs an earlier one to have
+/// Every test that holds, in document 01's order; the first is the answer, none means done. A test that needs an earlier one to have
 /// passed (a length needs sizes, cells need a length) is left out where it has not.
-pub fn numbers(call: &Call) -> Vec<u8> {
+pub fn refusals(call: &Call) -> Vec<Refusal> {
     let mut found = Vec::new();
     if call.name.is_job() && call.record.len() != 56 {
-        found.push(4);
+        found.push(Refusal::without_place(4));
         if call.name == Name::Turn {
             return found;
         }
     }
-    let record = words(&call.record);
-    let counts = match call.name {
-        Name::Check | Name::Negation => vec![call.a_size.0, call.a_size.1],
-        Name::Turn => record[0..3].to_vec(),
-        _ => vec![call.a_size.0, call.a_size.1, call.b_size.0, call.b_size.1],
-    };
-    let width = match call.name {
-        Name::Turn => record[3],
-        Name::Open if call.width == 0 => 4,
-        Name::Open => call.width,
-        _ => 4,
-    };
-    if counts.iter().any(|count| *count > 1024) {
-        found.push(1);
-    }
-    if counts.iter().any(|count| (65..=1024).contains(count)) {
-        found.push(11);
-    }
-    let fits = match call.name {
-        Name::Sum | Name::Difference => call.a_size == call.b_size,
-        Name::Product | Name::Open => call.a_size.1 == call.b_size.0,
-        _ => true,
-    };
-    if !fits {
-        found.push(2);
-    }
-    if width > 8 || width == 0 {
-        found.push(3);
-    }
+    let (counts, width) = asked(call);
     let buffers = buffers(call, &counts, width);
-    if buffers.iter().any(|buffer| buffer.length().map_or(false, |length| length != buffer.bytes.len())) {
-        found.push(4);
+    let tests = [
+        (1, counts.iter().any(|count| *count > 1024)),
+        (11, counts.iter().any(|count| (65..=1024).contains(count))),
+        (2, misfit(call)),
+        (3, width > 8 || width == 0),
+        (4, buffers.iter().any(|buffer| buffer.length().map_or(false, |length| length != buffer.bytes.len()))),
+    ];
+    found.extend(tests.iter().filter(|(_, holds)| *holds).map(|(number, _)| Refusal::without_place(*number)));
+    for (before, buffer) in buffers.iter().enumerate().filter(|(_, buffer)| buffer.read && buffer.fits()) {
+        found.extend(of_cells(before + 1, buffer.rows as usize, buffer.columns as usize, &words(buffer.bytes)));
     }
-    for buffer in buffers.iter().filter(|buffer| buffer.read && buffer.fits()) {
-        let (stray, padded) = faults(buffer.rows as usize, buffer.columns as usize, &words(buffer.bytes));
-        if stray {
-            found.push(5);
-        }
-        if padded {
-            found.push(6);
-        }
-    }
-    // A cell of A with a stray sign is no digit: then there is no list to count.
-    if call.name == Name::Turn && (1..=8).contains(&width) && buffers[0].fits() {
-        let (rows, columns, a) = (buffers[0].rows as usize, buffers[0].columns as usize, words(&call.a));
-        let total = || list(&Digits::of_words(rows, columns, &a), width as usize).len() as u64;
-        if !faults(rows, columns, &a).0 && record[4] > total() {
-            found.push(7);
-        }
-    }
+    found.extend(beyond(call, &buffers[0], width).then(|| Refusal::without_place(7)));
     found
+}
+
+/// The counts and the width meant, which a turn has in its record.
+fn asked(call: &Call) -> (Vec<u64>, u64) {
+    let (a, b) = (call.a_size, call.b_size);
+    match call.name {
+        Name::Check | Name::Negation => (vec![a.0, a.1], 4),
+        Name::Turn => (words(&call.record)[0..3].to_vec(), words(&call.record)[3]),
+        Name::Open if call.width != 0 => (vec![a.0, a.1, b.0, b.1], call.width),
+        _ => (vec![a.0, a.1, b.0, b.1], 4),
+    }
+}
+
+fn misfit(call: &Call) -> bool {
+    match call.name {
+        Name::Sum | Name::Difference => call.a_size != call.b_size,
+        Name::Product | Name::Open => call.a_size.1 != call.b_size.0,
+        _ => false,
+    }
+}
+
+/// Whether a record's steps done exceed the list's length. A stray sign in A is no digit: then there is no list to count.
+fn beyond(call: &Call, a: &Buffer, width: u64) -> bool {
+    if call.name != Name::Turn || !(1..=8).contains(&width) || !a.fits() {
+        return false;
+    }
+    let (rows, columns, held) = (a.rows as usize, a.columns as usize, words(a.bytes));
+    let total = || list(&Digits::of_words(rows, columns, &held), width as usize).len() as u64;
+    !faults(rows, columns, &held).0 && words(&call.record)[4] > total()
 }
 
 struct Buffer<'a> {

@@ -3,20 +3,21 @@
 use crate::call::{Call, Name, Written};
 use crate::guard::Guarded;
 use crate::library::{self, Job};
-use crate::meaning::{done, numbers};
+use crate::meaning::{done, refusals};
 use crate::random::Random;
+use crate::refusals::{text, Refusal};
 
 pub struct Trial {
-    /// Every number whose test holds; the first is the answer.
-    pub numbers: Vec<u8>,
+    /// Every test that holds; the first is the answer.
+    pub refusals: Vec<Refusal>,
     pub left: Written,
     /// What was wrong, if anything was.
     pub wrong: Vec<String>,
 }
 
 pub fn carry_out(random: &mut Random, call: &Call) -> Trial {
-    let numbers = numbers(call);
-    let wanted = numbers.first().copied().unwrap_or(0) as u64;
+    let refusals = refusals(call);
+    let wanted = refusals.first().map_or(0, Refusal::word);
     let left = if wanted == 0 {
         done(call)
     } else {
@@ -49,12 +50,12 @@ pub fn carry_out(random: &mut Random, call: &Call) -> Trial {
     };
     let mut wrong = Vec::new();
     if got != wanted {
-        wrong.push(format!("number: expected {wanted}, got {got}"));
+        wrong.push(format!("word: expected {}, got {}", text(wanted), text(got)));
     }
     wrong.extend(record.complaint("record", &left.record));
     wrong.extend(a.complaint("A", &call.a));
     wrong.extend(b.complaint("B", &call.b));
     wrong.extend(table.complaint("table", &left.table));
     wrong.extend(product.complaint("product", &left.product));
-    Trial { numbers, left, wrong }
+    Trial { refusals, left, wrong }
 }

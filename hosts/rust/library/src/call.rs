@@ -101,7 +101,7 @@ impl Name {
         self.multiplies() || matches!(self, Name::Quote | Name::Total)
     }
 
-    /// The words that come back beside the number: a tally's counts and its yes or no, steps, a record.
+    /// The words that come back beside the answer: a tally's counts and its yes or no, steps, a record.
     pub fn given(self) -> usize {
         match self {
             Name::Tally => 4,
@@ -109,6 +109,14 @@ impl Name {
             Name::Opening | Name::Turn => 7,
             _ => 0,
         }
+    }
+
+    /// The numbers with a place that it can give, each with a buffer.
+    pub fn places(self) -> Vec<(u8, usize)> {
+        if self == Name::Pack {
+            return vec![(8, 1)];
+        }
+        (1..=self.reads().len()).flat_map(|buffer| [(5, buffer), (6, buffer)]).collect()
     }
 
     /// The numbers that it can give, by document 01.

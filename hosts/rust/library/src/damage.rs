@@ -1,10 +1,12 @@
-//! Calls with faults: every fault that a request can have by itself, and every pair of them, so that the order of refusals is seen.
+//! Calls with faults: every fault that a request can have by itself, and every pair of them, so that the order of refusals is seen; and calls in
+//! which cells alone are wrong, at many places, so that the first place is seen.
 
 use crate::call::{Call, Name, Part};
-use crate::digits::{put, words_of_plane};
+use crate::digits::words_of_plane;
 use crate::making::{made, record, total, width};
 use crate::random::Random;
 use crate::sizes::{any, damaged, Sizes};
+use crate::spoil;
 
 #[derive(Clone, Copy, PartialEq, Debug)]
 pub enum Fault {
@@ -132,18 +134,7 @@ fn misfit(random: &mut Random, name: Name, sizes: &mut Sizes) {
     };
 }
 
-/// The place of a fault: often in the last row, often at the last column that can have it.
-fn place(random: &mut Random, rows: usize, from: usize, to: usize) -> (usize, usize) {
-    let i = if random.once_in(2) { rows - 1 } else { random.below(rows) };
-    let j = match random.below(4) {
-        0 => from,
-        1 | 2 => to - 1,
-        _ => from + random.below(to - from),
-    };
-    (i, j)
-}
-
-/// Faults of what a buffer holds, and of the digit.
+/// Faults of what a buffer holds, at one place or at several, and of the digit.
 fn cells(random: &mut Random, call: &mut Call, fault: Fault) {
     let (part, stray) = match fault {
         Fault::Stray(part) => (part, true),
@@ -151,24 +142,45 @@ fn cells(random: &mut Random, call: &mut Call, fault: Fault) {
         Fault::Digit => return digit(random, call),
         _ => return,
     };
-    let (rows, columns) = match call.size(part) {
-        Some(size) if size.0 > 0 && size.1 > 0 => size,
-        _ => return,
-    };
-    let at = if stray { place(random, rows, 0, columns) } else { place(random, rows, columns, 64 * words_of_plane(columns)) };
-    let bits = if stray { (false, true) } else { random.of(&[(true, false), (false, true), (true, true)]) };
-    put(columns, call.words_mut(part), at, bits);
+    if let Some(size) = call.size(part) {
+        spoil::cells(random, size, call.words_mut(part), stray);
+    }
 }
 
+/// A scale above 2, or such digits in unpacked cells.
 fn digit(random: &mut Random, call: &mut Call) {
-    let above = random.of(&[3, 3, 4, 5, 6, 127, 128, 129, 130, 254, 255]);
+    const ABOVE: [u8; 11] = [3, 3, 4, 5, 6, 127, 128, 129, 130, 254, 255];
     if call.name == Name::Scaling {
-        call.digit = above;
-    } else {
-        let (rows, columns) = (call.a_size.0 as usize, call.a_size.1 as usize);
-        let (i, j) = place(random, rows, 0, columns);
-        call.cells[i * columns + j] = above;
+        call.digit = random.of(&ABOVE);
+        return;
     }
+    let (rows, columns) = (call.a_size.0 as usize, call.a_size.1 as usize);
+    for (i, j) in spoil::places(random, rows, (0, columns)) {
+        call.cells[i * columns + j] = random.of(&ABOVE);
+    }
+}
+
+/// The `turn`-th call of a request whose cells are wrong, often in several buffers: each in turn is the first of them. A scale may be wrong too.
+pub fn wrong_cells(random: &mut Random, name: Name, turn: usize) -> Call {
+    let (width, sizes) = (width(random, name, turn), damaged(random, name));
+    let mut call = made(random, name, sizes, width);
+    let first = turn % name.reads().len();
+    for (place, part) in name.reads().iter().enumerate().skip(first) {
+        let (stray, padding) = (Fault::Stray(*part), Fault::Padding(*part));
+        let faults = match random.below(if place == first { 4 } else { 8 }) {
+            _ if *part == Part::Cells => vec![Fault::Digit],
+            0 => vec![stray],
+            1 => vec![stray, padding],
+            2 | 3 => vec![padding],
+            _ => Vec::new(),
+        };
+        faults.iter().for_each(|fault| cells(random, &mut call, *fault));
+    }
+    if name == Name::Scaling && random.once_in(4) {
+        digit(random, &mut call);
+    }
+    record(random, &mut call);
+    call
 }
 
 /// One item more or less, none, a row more or less, twice as many.

@@ -12,12 +12,10 @@ fn digits(call: &Call, part: Part) -> Digits {
     Digits::of_words(rows, columns, call.words(part))
 }
 
-/// What a refused call leaves: every buffer as it was, counts and records of 0; a turn hands its record back.
+/// What a refused call leaves: every buffer as it was, the record of an opening or a turn too, and counts of 0.
 pub fn refused(call: &Call) -> Written {
-    let mut given = vec![0; call.given.len()];
-    if call.name == Name::Turn {
-        given[..5].copy_from_slice(&call.given[..5]);
-    }
+    let job = matches!(call.name, Name::Opening | Name::Turn);
+    let given = if job { call.given.clone() } else { vec![0; call.given.len()] };
     Written { given, cells: call.cells.clone(), table: call.table.clone(), result: call.result.clone() }
 }
 

@@ -1,5 +1,5 @@
 //! The fourteen calls of the archive as safe functions. A slice carries pointer and length together, is never null, and one that is `&mut`
-//! shares no word with another. What comes back beside the number is an array of its own behind a plain pointer.
+//! shares no word with another. What comes back beside the answer is an array of its own behind a plain pointer.
 
 /// Rows and columns.
 pub type Size = (u64, u64);

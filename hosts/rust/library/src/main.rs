@@ -1,13 +1,13 @@
 //! A Rust host of the library itself. It links the archive of the fourteen requests over words, wraps the calls safely, and compares every call
-//! with an implementation of its own that shares no code with the library: number, what comes back beside it, and every buffer word for word,
-//! guard words about them too, refused or not.
+//! with an implementation of its own that shares no code with the library: the answer with its number and its place, what comes back beside it, and
+//! every buffer word for word, guard words about them too, refused or not.
 //!
 //!     library [--count N] [--seed S]
 //!
 //! Half of the calls are legal, with rows of every length up to 16 words a plane; the others have every fault that the request can have by itself,
-//! and every pair of faults. It counts how often each number came from each request, and which numbers stood behind others: a pair 4<5 means that
-//! a call with both faults was answered 4. A number that a request can give and never gave, a length of rows that was not met, and any
-//! difference end it with status 1.
+//! every pair of faults, and wrong cells in many places at once. It counts how often each number came from each request, and which numbers stood
+//! behind others: a pair 4<5 means that a call with both faults was answered 4. It counts places too, by buffer and of several kinds. A number or
+//! a place that a request can give and never gave, a length of rows that was not met, and any difference end it with status 1.
 
 mod call;
 #[path = "../../common/counts.rs"]
@@ -26,7 +26,11 @@ mod met;
 mod options;
 #[path = "../../common/random.rs"]
 mod random;
+#[path = "../../common/refusals.rs"]
+mod refusals;
 mod sizes;
+#[path = "../../common/spoil.rs"]
+mod spoil;
 mod together;
 mod trial;
 
@@ -91,7 +95,7 @@ fn main() {
     exit(met.summary())
 }
 
-/// One call by itself: legal and damaged ones in turn.
+/// One call by itself: legal and damaged ones in turn, and after some of them one whose cells are wrong.
 fn single(caller: &mut Caller, name: Name, made: usize) {
     if made % 2 == 0 {
         let call = making::legal(caller.random, name, made / 2);
@@ -100,5 +104,11 @@ fn single(caller: &mut Caller, name: Name, made: usize) {
         let call = damage::call(caller.random, name, made / 2);
         caller.call(&call);
         caller.met.plans[name as usize] += 1;
+    }
+    // Pack alone has digits at places, and comes once in a round.
+    let every = if name == Name::Pack { 1 } else { 3 };
+    if made % every == 0 && !name.reads().is_empty() {
+        let call = damage::wrong_cells(caller.random, name, made / every);
+        caller.call(&call);
     }
 }

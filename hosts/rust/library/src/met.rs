@@ -1,10 +1,11 @@
-//! What a run has met, and what it has to meet: every number of every request, every pair of faults, rows of every class of lengths, jobs of
-//! every width.
+//! What a run has met, and what it has to meet: every number of every request, in every buffer that it looks at, places of all kinds, every pair of
+//! faults, rows of every class of lengths, jobs of every width.
 
 use crate::call::{Call, Name, Part, NAMES};
 use crate::counts::Counts;
 use crate::damage::plans;
 use crate::digits::words_of_plane;
+use crate::refusals::KINDS;
 use crate::sizes::CLASSES;
 use crate::trial::Trial;
 use std::collections::BTreeSet;
@@ -41,13 +42,13 @@ fn across(name: Name) -> Option<Part> {
 impl Met {
     /// Takes in one call; `place` says which it was.
     pub fn take(&mut self, place: &str, call: &Call, trial: &Trial) {
-        self.counts.take(call.name as usize, &trial.numbers);
+        self.counts.take(call.name as usize, &trial.refusals);
         self.calls[call.name as usize] += 1;
         if !trial.wrong.is_empty() {
             self.counts.differs(|| format!("{place}: {}\n  {}", call.text(), trial.wrong.join("\n  ")));
         }
         let idle = call.name == Name::Turn && trial.left.given[5] == 0;
-        if trial.numbers.is_empty() && !idle {
+        if trial.refusals.is_empty() && !idle {
             self.rows_of(call, false, Some(Part::A));
             self.rows_of(call, true, across(call.name));
         }
@@ -80,7 +81,7 @@ impl Met {
     fn missing(&self) -> Vec<String> {
         let mut never = Vec::new();
         for name in NAMES {
-            never.extend(self.counts.print(name as usize, name.text(), name.numbers()));
+            never.extend(self.counts.print(name as usize, name.text(), name.numbers(), &name.places()));
             never.extend(self.planes_missing(name));
             if self.calls[name as usize] < LEAST {
                 never.push(format!("{} {LEAST} times", name.text()));
@@ -89,6 +90,7 @@ impl Met {
                 never.push(format!("{} every pair of faults", name.text()));
             }
         }
+        never.extend(self.counts.print_places(&[5, 6, 8], KINDS.len()));
         never.extend((0..=8).filter(|width| !self.widths.contains(width)).map(|width| format!("a job of width {width}")));
         never
     }

@@ -86,7 +86,8 @@ impl Caller<'_> {
         Some(())
     }
 
-    /// No total exceeds 1,050,112, and ones and twos in turn meet it. A turn at that place finds its list ended, and one step further is too far.
+    /// No total exceeds 1,050,112, and ones and twos in turn meet it. A turn at that place finds its list ended. One step further is too far: the
+    /// turn is refused, and its record stays.
     pub fn longest(&mut self) -> Option<()> {
         const LONGEST: u64 = 1_050_112;
         let sizes = ((1024, 1024), (1024, 3));
@@ -96,10 +97,10 @@ impl Caller<'_> {
         if self.call(&total)?.given != [LONGEST] {
             self.differs(&total, "the longest list has another length");
         }
-        for (steps, ended) in [(LONGEST, 1), (LONGEST + 1, 0)] {
-            let given = vec![1024, 1024, 3, 2, steps, 0, 0];
+        for (steps, last) in [(LONGEST, [0, 1]), (LONGEST + 1, [8, 9])] {
+            let given = vec![1024, 1024, 3, 2, steps, 8, 9];
             let turn = Call { a: a.words(), given, ..making::made(self.random, Name::Turn, sizes, 2) };
-            if self.call(&turn)?.given[5..] != [0, ended] {
+            if self.call(&turn)?.given[5..] != last {
                 self.differs(&turn, "a turn at the end of the longest list, or beyond it");
             }
         }

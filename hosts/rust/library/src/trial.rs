@@ -4,13 +4,14 @@ use crate::call::{Call, Name, Written};
 use crate::doing::{done, refused};
 use crate::guard::Guarded;
 use crate::linked::{self, Factors, Made};
-use crate::meaning::numbers;
+use crate::meaning::refusals;
 use crate::random::Random;
+use crate::refusals::{text, Refusal};
 use std::convert::TryInto;
 
 pub struct Trial {
-    /// Every number whose test holds; the first is the answer.
-    pub numbers: Vec<u8>,
+    /// Every test that holds; the first is the answer.
+    pub refusals: Vec<Refusal>,
     pub left: Written,
     /// What was wrong, if anything was.
     pub wrong: Vec<String>,
@@ -26,7 +27,7 @@ struct Room {
     result: Guarded<u64>,
 }
 
-/// What comes back beside the number, as the array that it is.
+/// What comes back beside the answer, as the array that it is.
 fn array<const N: usize>(given: &mut Guarded<u64>) -> &mut [u64; N] {
     given.part().try_into().expect("as many words as the request gives back")
 }
@@ -87,14 +88,14 @@ impl Room {
 }
 
 pub fn carry_out(random: &mut Random, call: &Call) -> Trial {
-    let numbers = numbers(call);
-    let wanted = numbers.first().copied().unwrap_or(0) as u64;
+    let refusals = refusals(call);
+    let wanted = refusals.first().map_or(0, Refusal::word);
     let left = if wanted == 0 { done(call) } else { refused(call) };
     let mut room = Room::new(random, call);
     let got = room.asked(call);
     let mut wrong = room.complaints(call, &left);
     if got != wanted {
-        wrong.insert(0, format!("number: expected {wanted}, got {got}"));
+        wrong.insert(0, format!("word: expected {}, got {}", text(wanted), text(got)));
     }
-    Trial { numbers, left, wrong }
+    Trial { refusals, left, wrong }
 }

@@ -10,14 +10,14 @@ words-in-requires c κs = search needs
 check-requires : tie.Need-check-requires
 check-requires c κs = search needs
 
-number-requires : tie.Need-number-requires
-number-requires c κs = search needs
+word-requires : tie.Need-word-requires
+word-requires c κs = search needs
 
 same-length : tie.Need-same-length
 same-length c = search needs
 
 returns : tie.Need-returns
-returns c = c .number .ensures ∙ c .before .check .ensures ∙ rw (c .before .before .before .before .before .words-in .ensures) (check-same (c .before .before .before .before .before .before .before .before .before .args .s) (c .before .before .before .before .before .before .before .before .before .args .a .now) (c .before .before .before .before .before .before .before .before .before .pre .0))
+returns c = c .word .ensures ∙ c .before .check .ensures ∙ rw (c .before .before .before .before .before .words-in .ensures) (check-same (c .before .before .before .before .before .before .before .before .before .args .s) (c .before .before .before .before .before .before .before .before .before .args .a .now) (c .before .before .before .before .before .before .before .before .before .pre .0))
 
 pub check-words-spec : {M : Type 1} → statement M
-check-words-spec = tie.close (tie.spec words-in-requires check-requires number-requires same-length returns)
+check-words-spec = tie.close (tie.spec words-in-requires check-requires word-requires same-length returns)

@@ -9,15 +9,15 @@ use Rattle.cface.proofs.open.nyuzolamba_open.Tie as tie
 judged-requires : tie.Need-judged-requires
 judged-requires c κs = search needs
 
-number-requires : tie.Need-number-requires
-number-requires c κs = search needs
+word-requires : tie.Need-word-requires
+word-requires c κs = search needs
 
 returns : tie.Need-returns
 unfolding openFace openFaceTests
-returns c = unasked _ _ _ _ _ (c .before .number .ensures ∙ c .before .before .judged .ensures) (c .if1 .taken)
+returns c = unasked _ _ _ _ _ (c .before .word .ensures ∙ c .before .before .judged .ensures) (c .if1 .taken)
 
 open-room-requires : tie.Need-open-room-requires
-open-room-requires c κs = sym (c .before .before .before .before .before .judged .ensures) ∙ sym (c .before .before .before .before .number .ensures) ∙ c .before .before .before .if1 .left
+open-room-requires c κs = sym (c .before .before .before .before .before .judged .ensures) ∙ sym (c .before .before .before .before .word .ensures) ∙ c .before .before .before .if1 .left
 
 same-length : tie.Need-same-length
 same-length c = search needs
@@ -32,4 +32,4 @@ returns-2 : tie.Need-returns-2
 returns-2 c = search needs
 
 pub nyuzolamba-open-spec : {M : Type 1} → statement M
-nyuzolamba-open-spec = tie.close (tie.spec judged-requires number-requires returns open-room-requires same-length same-length-2 same-length-3 returns-2)
+nyuzolamba-open-spec = tie.close (tie.spec judged-requires word-requires returns open-room-requires same-length same-length-2 same-length-3 returns-2)

@@ -1,6 +1,6 @@
 use mathlib.Core.Path.{sym, ap, _∙_}
-use Rattle.cface.proofs.JobCarryLaws.{open-record, open-carried}
 use Prim.Native.Nat.{ℕ, _*_}
+use Rattle.cface.proofs.JobCarryLaws.{open-record, open-done, open-refused}
 use borrow.Author.Needs.{needs}
 use Rattle.cface.proofs.open.open_words.Statement.{statement}
 use Rattle.cface.proofs.open.open_words.Tie as tie
@@ -11,11 +11,20 @@ words-in-two-requires c κs = search needs
 opening-requires : tie.Need-opening-requires
 opening-requires c κs = search needs
 
-number-requires : tie.Need-number-requires
-number-requires c κs = search needs
+enum-known-opened : tie.Need-enum-known-opened
+enum-known-opened c = search needs
 
-leave-job-requires : tie.Need-leave-job-requires
-leave-job-requires c κs = (open-record (c .before .before .before .before .before .before .before .before .before .before .before .before .before .before .before .before .before .before .before .before .before .before .before .before .before .before .before .before .before .before .before .before .args .x) (c .before .before .before .before .before .before .before .before .before .before .before .before .before .before .before .before .before .before .before .before .before .before .before .before .before .before .before .before .before .before .before .before .args .y) (c .before .before .before .before .before .before .before .before .before .before .before .before .before .before .before .before .before .before .before .before .before .before .before .before .before .before .before .before .before .before .before .before .args .width) _ (c .before .before .before .before .before .before .before .before .before .before .before .before .before .before .before .before .before .before .before .before .before .before .before .before .before .before .before .before .before .before .before .before .args .a .now) (c .before .before .before .before .before .before .before .before .before .before .before .before .before .before .before .before .before .before .before .before .before .before .before .before .before .before .before .before .before .before .before .before .args .b .now) _ _ (c .before .before .before .before .before .before .before .before .before .before .before .before .before .before .before .before .before .before .before .before .before .before .before .before .before .before .before .before .before .before .before .before .pre .0), c .before .before .before .before .before .before .before .before .before .before .before .before .before .before .before .before .before .before .before .before .before .before .before .before .before .before .before .before .before .before .before .before .pre .3 ∙ ap (λ (k : ℕ). 8 * k) (sym (c .before .before .before .before .before .before .before .before .before .before .before .opening .kept .1 .1 .1 .1 .1 .0)), c .before .before .before .before .before .before .before .before .before .before .before .before .before .before .before .before .before .before .before .before .before .before .before .before .before .before .before .before .before .before .before .before .pre .4 ∙ ap (λ (k : ℕ). 8 * k) (sym (c .before .before .before .before .before .before .before .before .before .before .before .opening .kept .1 .1 .1 .1 .1 .1 .0)))
+put-job-requires : tie.Need-put-job-requires
+put-job-requires c κs =
+    let s = c .before .before .before .before .before .before .before .before .before .before .before .before .before .before .before .before .before .before .before .before .before .before .before .before .before .before .before .before .before .before .before .before .before in
+    let kept = c .before .before .before .before .before .before .before .before .before .before .before .before .opening .kept in
+    (open-record (s .args .x) (s .args .y) (s .args .width) _ (s .args .a .now) (s .args .b .now) _ _ (s .pre .0), s .pre .3 ∙ ap (λ (k : ℕ). 8 * k) (sym (kept .1 .1 .1 .1 .1 .0)), s .pre .4 ∙ ap (λ (k : ℕ). 8 * k) (sym (kept .1 .1 .1 .1 .1 .1 .0)))
+
+enum-known-opened-2 : tie.Need-enum-known-opened-2
+enum-known-opened-2 c = search needs
+
+reason-word-requires : tie.Need-reason-word-requires
+reason-word-requires c κs = search needs
 
 same-length : tie.Need-same-length
 same-length c = search needs
@@ -39,7 +48,51 @@ same-length-7 : tie.Need-same-length-7
 same-length-7 c = search needs
 
 returns : tie.Need-returns
-returns c = c .before .before .before .before .before .before .leave-job .ensures ∙ open-carried (c .before .before .before .before .before .before .before .before .before .before .before .before .before .before .before .before .before .before .before .before .before .before .before .before .before .before .before .before .before .before .before .before .before .before .before .before .before .before .before .args .x) (c .before .before .before .before .before .before .before .before .before .before .before .before .before .before .before .before .before .before .before .before .before .before .before .before .before .before .before .before .before .before .before .before .before .before .before .before .before .before .before .args .y) (c .before .before .before .before .before .before .before .before .before .before .before .before .before .before .before .before .before .before .before .before .before .before .before .before .before .before .before .before .before .before .before .before .before .before .before .before .before .before .before .args .width) (c .before .before .before .before .before .before .before .before .before .before .before .before .before .before .before .before .before .before .before .before .before .before .before .before .before .before .before .before .before .before .before .before .before .before .before .before .before .before .before .args .job .now) (c .before .before .before .before .before .before .before .before .before .before .before .before .before .before .before .before .before .before .before .before .before .before .before .before .before .before .before .before .before .before .before .before .before .before .before .before .before .before .before .args .a .now) (c .before .before .before .before .before .before .before .before .before .before .before .before .before .before .before .before .before .before .before .before .before .before .before .before .before .before .before .before .before .before .before .before .before .before .before .before .before .before .before .args .b .now) (c .before .before .before .before .before .before .before .before .before .before .before .before .before .before .before .before .before .before .before .before .before .before .before .before .before .before .before .before .before .before .before .before .before .before .before .before .before .before .before .args .table .now) (c .before .before .before .before .before .before .before .before .before .before .before .before .before .before .before .before .before .before .before .before .before .before .before .before .before .before .before .before .before .before .before .before .before .before .before .before .before .before .before .args .product .now) _ _ _ _ _ _ _ _ _ (c .before .before .before .before .before .before .before .before .before .before .before .before .before .before .before .before .before .before .before .before .before .before .before .before .before .before .before .before .before .before .before .before .before .before .before .before .before .before .before .pre .0) (c .before .before .before .before .before .before .before .before .before .before .before .before .before .before .before .before .before .before .before .before .before .before .before .before .before .before .before .before .before .before .before .before .before .before .before .before .before .before .before .pre .3) (c .before .before .before .before .before .before .before .before .before .before .before .before .before .before .before .before .before .before .before .before .before .before .before .before .before .before .before .before .before .before .before .before .before .before .before .before .before .before .before .pre .4) (c .before .before .before .before .before .before .before .before .before .before .before .before .before .before .before .before .before .before .before .before .before .before .before .before .before .before .before .words-in-two .ensures .0) (c .before .before .before .before .before .before .before .before .before .before .before .before .before .before .before .before .before .before .before .before .before .before .before .before .before .before .before .words-in-two .ensures .1) (c .before .before .before .before .before .before .before .before .before .before .before .before .before .number .ensures) (c .before .before .before .before .before .before .before .before .before .before .before .before .before .before .before .before .before .before .opening .ensures)
+returns c =
+    let s = c .before .before .before .before .before .before .before .before .before .before .before .before .before .before .before .before .before .before .before .before .before .before .before .before .before .before .before .before .before .before .before .before .before .before .before .before .before .before .before .before in
+    let read = c .before .before .before .before .before .before .before .before .before .before .before .before .before .before .before .before .before .before .before .before .before .before .before .before .before .before .before .before .words-in-two in
+    let put = c .before .before .before .before .before .before .put-job in
+    rw (put .ensures .0, put .ensures .1, put .ensures .2)
+    (open-done (s .args .x) (s .args .y) (s .args .width) (s .args .job .now) (s .args .a .now) (s .args .b .now) (s .args .table .now) (s .args .product .now) _ _ _ _ _ _ _ (s .pre .0) (s .pre .3) (s .pre .4) (read .ensures .0) (read .ensures .1) (c .before .before .before .before .before .before .before .before .before .before .before .before .before .before .before .before .before .before .before .opening .ensures) _ (c .before .before .before .before .before .before .before .before .before .before .before .before .before .opened .given .1))
+
+same-length-8 : tie.Need-same-length-8
+same-length-8 c = search needs
+
+same-length-9 : tie.Need-same-length-9
+same-length-9 c = search needs
+
+same-length-10 : tie.Need-same-length-10
+same-length-10 c = search needs
+
+same-length-11 : tie.Need-same-length-11
+same-length-11 c = search needs
+
+returns-2 : tie.Need-returns-2
+returns-2 c =
+    let s = c .before .before .before .before .before .before .before .before .before .before .before .before .before .before .before .before .before .before .before .before .before .before .before .before .before .before .before .before .before in
+    let read = c .before .before .before .before .before .before .before .before .before .before .before .before .before .before .before .before .before .words-in-two in
+    open-refused (s .args .x) (s .args .y) (s .args .width) (s .args .job .now) (s .args .a .now) (s .args .b .now) (s .args .table .now) (s .args .product .now) _ _ _ _ _ _ _ (s .pre .0) (s .pre .3) (s .pre .4) (read .ensures .0) (read .ensures .1) (c .before .before .before .before .before .before .before .before .opening .ensures) _ _ (c .before .before .opened2 .given .1) (c .reason-word .ensures)
 
 pub open-words-spec : {M : Type 1} → statement M
-open-words-spec = tie.close (tie.spec words-in-two-requires opening-requires number-requires leave-job-requires same-length same-length-2 same-length-3 same-length-4 same-length-5 same-length-6 same-length-7 returns)
+open-words-spec =
+    tie.close
+    (tie.spec
+    words-in-two-requires
+    opening-requires
+    enum-known-opened
+    put-job-requires
+    enum-known-opened-2
+    reason-word-requires
+    same-length
+    same-length-2
+    same-length-3
+    same-length-4
+    same-length-5
+    same-length-6
+    same-length-7
+    returns
+    same-length-8
+    same-length-9
+    same-length-10
+    same-length-11
+    returns-2)

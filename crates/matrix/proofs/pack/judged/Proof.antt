@@ -1,5 +1,9 @@
-use mathlib.Core.Path.{sym, _∙_}
-use Rattle.requests.specs.Answers.{first}
+use mathlib.Core.Path.{sym, ap, _∙_}
+use lib.ListN.{length}
+use Rattle.cells.proofs.AnyLaws.{or-left}
+use Rattle.requests.specs.Answers.{placed, first}
+use Rattle.requests.specs.Sizes.{unfit}
+use Rattle.matrix.specs.Unpacked.{unlike}
 use Rattle.matrix.specs.Pack.{packTests}
 use borrow.Author.Needs.{needs}
 use Rattle.matrix.proofs.pack.judged.Statement.{statement}
@@ -22,9 +26,12 @@ returns-2 c = rw (sym (c .before .before .before .over .ensures) ∙ c .before .
 above-requires : tie.Need-above-requires
 above-requires c κs = search needs
 
+above-at-requires : tie.Need-above-at-requires
+above-at-requires c κs = (sym (c .before .before .before .before .before .over .ensures) ∙ c .before .before .before .before .if1 .left, or-left (unlike (c .before .before .before .before .before .before .before .args .s) (length (c .before .before .before .before .before .before .before .args .cells .now))) (unfit (c .before .before .before .before .before .before .before .args .s) (c .before .before .before .before .before .before .before .args .n)) (sym (c .before .before .before .either-unlike .ensures) ∙ c .before .before .if2 .left), sym (c .before .above .ensures) ∙ c .if3 .taken)
+
 returns-3 : tie.Need-returns-3
 unfolding packTests first
-returns-3 c = rw (sym (c .before .before .before .before .before .over .ensures) ∙ c .before .before .before .before .if1 .left, sym (c .before .before .before .either-unlike .ensures) ∙ c .before .before .if2 .left, sym (c .before .above .ensures) ∙ c .if3 .taken)
+returns-3 c = rw (sym (c .before .before .before .before .before .before .over .ensures) ∙ c .before .before .before .before .before .if1 .left, sym (c .before .before .before .before .either-unlike .ensures) ∙ c .before .before .before .if2 .left, sym (c .before .before .above .ensures) ∙ c .before .if3 .taken) (ap (placed 8) (c .above-at .ensures))
 
 returns-4 : tie.Need-returns-4
 unfolding packTests first
@@ -39,5 +46,6 @@ judged-spec =
     either-unlike-requires
     returns-2
     above-requires
+    above-at-requires
     returns-3
     returns-4)

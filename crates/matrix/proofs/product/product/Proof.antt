@@ -14,19 +14,19 @@ use Rattle.matrix.proofs.product.product.Tie as tie
 judged-requires : tie.Need-judged-requires
 judged-requires c κs = search needs
 
-number-requires : tie.Need-number-requires
-number-requires c κs = search needs
+word-requires : tie.Need-word-requires
+word-requires c κs = search needs
 
 returns : tie.Need-returns
 unfolding productMeans
-returns c = refused _ _ _ _ (λ z. c .if1 .taken (c .before .number .ensures ∙ z)) (sym (c .before .before .judged .ensures))
+returns c = refused _ _ _ _ (λ z. c .if1 .taken (c .before .word .ensures ∙ z)) (sym (c .before .before .judged .ensures))
 
 meant-requires : tie.Need-meant-requires
 meant-requires c κs = search needs
 
 multiplied-requires : tie.Need-multiplied-requires
 multiplied-requires c κs =
-    let r = opening-ready (c .before .before .before .before .before .before .before .before .before .before .args .x) (c .before .before .before .before .before .before .before .before .before .before .args .y) (c .before .before .before .before .before .before .before .before .before .before .args .width) (c .before .before .before .before .before .before .before .before .before .before .args .a .now) (c .before .before .before .before .before .before .before .before .before .before .args .b .now) (length (c .before .before .before .before .before .before .before .before .before .before .args .table .now)) (length (c .before .before .before .before .before .before .before .before .before .before .args .product .now)) (sym (c .before .before .before .before .before .judged .ensures) ∙ sym (c .before .before .before .before .number .ensures) ∙ c .before .before .before .if1 .left) in
+    let r = opening-ready (c .before .before .before .before .before .before .before .before .before .before .args .x) (c .before .before .before .before .before .before .before .before .before .before .args .y) (c .before .before .before .before .before .before .before .before .before .before .args .width) (c .before .before .before .before .before .before .before .before .before .before .args .a .now) (c .before .before .before .before .before .before .before .before .before .before .args .b .now) (length (c .before .before .before .before .before .before .before .before .before .before .args .table .now)) (length (c .before .before .before .before .before .before .before .before .before .before .args .product .now)) (sym (c .before .before .before .before .before .judged .ensures) ∙ sym (c .before .before .before .before .word .ensures) ∙ c .before .before .before .if1 .left) in
     (record { m = r .m; l = r .l; n = r .n; some = omega (arith, c .before .before .meant .ensures, meant-pos (c .before .before .before .before .before .before .before .before .before .before .args .width)); width = omega (arith, c .before .before .meant .ensures, meant-le (c .before .before .before .before .before .before .before .before .before .before .args .width) (r .width)) }, r .left, r .right, rw (c .before .before .meant .ensures) (r .table), r .product)
 
 same-length : tie.Need-same-length
@@ -37,14 +37,14 @@ same-length-2 c = search needs
 
 returns-2 : tie.Need-returns-2
 unfolding productMeans endOf
-returns-2 c = finished _ _ _ _ (sym (c .before .before .before .before .before .before .before .before .before .before .judged .ensures) ∙ sym (c .before .before .before .before .before .before .before .before .before .number .ensures) ∙ c .before .before .before .before .before .before .before .before .if1 .left) (ap₂ (λ (t p : List ℕ). (t, p)) (rw (c .before .before .before .before .before .before .before .meant .ensures) at (c .before .before .before .before .multiplied .ensures .0)) (rw (c .before .before .before .before .before .before .before .meant .ensures) at (c .before .before .before .before .multiplied .ensures .1)))
+returns-2 c = finished _ _ _ _ (sym (c .before .before .before .before .before .before .before .before .before .before .judged .ensures) ∙ sym (c .before .before .before .before .before .before .before .before .before .word .ensures) ∙ c .before .before .before .before .before .before .before .before .if1 .left) (ap₂ (λ (t p : List ℕ). (t, p)) (rw (c .before .before .before .before .before .before .before .meant .ensures) at (c .before .before .before .before .multiplied .ensures .0)) (rw (c .before .before .before .before .before .before .before .meant .ensures) at (c .before .before .before .before .multiplied .ensures .1)))
 
 pub product-spec : {M : Type 1} → statement M
 product-spec =
     tie.close
     (tie.spec
     judged-requires
-    number-requires
+    word-requires
     returns
     meant-requires
     multiplied-requires

@@ -9,16 +9,16 @@ use Rattle.matrix.proofs.sum.sum.Tie as tie
 judged-requires : tie.Need-judged-requires
 judged-requires c κs = search needs
 
-number-requires : tie.Need-number-requires
-number-requires c κs = search needs
+word-requires : tie.Need-word-requires
+word-requires c κs = search needs
 
 returns : tie.Need-returns
 unfolding sumMeans
-returns c = refused _ _ _ _ (λ z. c .if1 .taken (c .before .number .ensures ∙ z)) (sym (c .before .before .judged .ensures))
+returns c = refused _ _ _ _ (λ z. c .if1 .taken (c .before .word .ensures ∙ z)) (sym (c .before .before .judged .ensures))
 
 sum-rows-requires : tie.Need-sum-rows-requires
 sum-rows-requires c κs =
-    let r = ready (c .before .before .before .before .before .before .before .args .x) (c .before .before .before .before .before .before .before .args .y) (c .before .before .before .before .before .before .before .args .a .now) (c .before .before .before .before .before .before .before .args .b .now) _ (sym (c .before .before .before .judged .ensures) ∙ sym (c .before .before .number .ensures) ∙ c .before .if1 .left) in
+    let r = ready (c .before .before .before .before .before .before .before .args .x) (c .before .before .before .before .before .before .before .args .y) (c .before .before .before .before .before .before .before .args .a .now) (c .before .before .before .before .before .before .before .args .b .now) _ (sym (c .before .before .before .judged .ensures) ∙ sym (c .before .before .word .ensures) ∙ c .before .if1 .left) in
     (r .rows, r .columns, r .left, r .right, r .room)
 
 same-length : tie.Need-same-length
@@ -26,9 +26,9 @@ same-length c = search needs
 
 returns-2 : tie.Need-returns-2
 unfolding sumMeans
-returns-2 c = finished _ _ _ _ (sym (c .before .before .before .before .before .before .judged .ensures) ∙ sym (c .before .before .before .before .before .number .ensures) ∙ c .before .before .before .before .if1 .left) (c .before .before .sum-rows .ensures)
+returns-2 c = finished _ _ _ _ (sym (c .before .before .before .before .before .before .judged .ensures) ∙ sym (c .before .before .before .before .before .word .ensures) ∙ c .before .before .before .before .if1 .left) (c .before .before .sum-rows .ensures)
 
 pub sum-spec : {M : Type 1} → statement M
 sum-spec =
     tie.close
-    (tie.spec judged-requires number-requires returns sum-rows-requires same-length returns-2)
+    (tie.spec judged-requires word-requires returns sum-rows-requires same-length returns-2)

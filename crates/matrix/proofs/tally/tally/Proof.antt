@@ -7,6 +7,8 @@ use Rattle.buffers.proofs.BufferLaws.{legal-tests}
 use Rattle.requests.specs.Faults.{faults}
 use Rattle.requests.proofs.SizeLaws.{over-columns, unfit-long}
 use Rattle.requests.specs.Exact.{None}
+use Rattle.requests.specs.declared.Buffer.the-variants.{First}
+use Rattle.requests.proofs.PairLaws.{faults-positive}
 use Rattle.requests.proofs.AnswerLaws.{first-none, refused, finished}
 use Rattle.rows.specs.Tally.{tallyRow}
 use Rattle.matrix.specs.Check.{checkTests, checkMeans}
@@ -20,23 +22,23 @@ use Rattle.matrix.proofs.tally.tally.Tie as tie
 check-requires : tie.Need-check-requires
 check-requires c κs = search needs
 
-number-requires : tie.Need-number-requires
-number-requires c κs = search needs
+word-requires : tie.Need-word-requires
+word-requires c κs = search needs
 
 returns : tie.Need-returns
 unfolding tallyMeans checkMeans
-returns c = refused _ _ _ _ (λ z. c .if1 .taken (c .before .number .ensures ∙ z)) (sym (c .before .before .check .ensures))
+returns c = refused _ _ _ _ (λ z. c .if1 .taken (c .before .word .ensures ∙ z)) (sym (c .before .before .check .ensures))
 
 planes-requires : tie.Need-planes-requires
 unfolding checkMeans checkTests faults
 planes-requires c κs =
-    let t : None (checkTests (record { rows = 1; columns = c .before .before .before .before .args .columns }) (c .before .before .before .before .args .a .now)) = first-none (checkTests (record { rows = 1; columns = c .before .before .before .before .args .columns }) (c .before .before .before .before .args .a .now)) tt (sym (c .before .before .check .ensures) ∙ sym (c .before .number .ensures) ∙ c .if1 .left) in
+    let t : None (checkTests (record { rows = 1; columns = c .before .before .before .before .args .columns }) (c .before .before .before .before .args .a .now)) = first-none (checkTests (record { rows = 1; columns = c .before .before .before .before .args .columns }) (c .before .before .before .before .args .a .now)) (faults-positive First (record { rows = 1; columns = c .before .before .before .before .args .columns }) (c .before .before .before .before .args .a .now)) (sym (c .before .before .check .ensures) ∙ sym (c .before .word .ensures) ∙ c .if1 .left) in
     over-columns _ (t .0)
 
 tally-requires : tie.Need-tally-requires
 unfolding checkMeans checkTests faults
 tally-requires c κs =
-    let t : None (checkTests (record { rows = 1; columns = c .before .before .before .before .before .args .columns }) (c .before .before .before .before .before .args .a .now)) = first-none (checkTests (record { rows = 1; columns = c .before .before .before .before .before .args .columns }) (c .before .before .before .before .before .args .a .now)) tt (sym (c .before .before .before .check .ensures) ∙ sym (c .before .before .number .ensures) ∙ c .before .if1 .left) in
+    let t : None (checkTests (record { rows = 1; columns = c .before .before .before .before .before .args .columns }) (c .before .before .before .before .before .args .a .now)) = first-none (checkTests (record { rows = 1; columns = c .before .before .before .before .before .args .columns }) (c .before .before .before .before .before .args .a .now)) (faults-positive First (record { rows = 1; columns = c .before .before .before .before .before .args .columns }) (c .before .before .before .before .before .args .a .now)) (sym (c .before .before .before .check .ensures) ∙ sym (c .before .before .word .ensures) ∙ c .before .if1 .left) in
     (c .planes .ensures, over-columns _ (t .0), row-zero _ _ _ (c .planes .ensures) (legal-tests 1 (c .before .before .before .before .before .args .columns) (c .before .before .before .before .before .args .a .now) (unfit-long _ _ (t .1 .0)) (t .1 .1 .0) (t .1 .1 .1 .0)) (λ n. omega (arith, c .before .before .before .before .shared-slice-known .given n)))
 
 array-read-balanced : tie.Need-array-read-balanced
@@ -49,14 +51,14 @@ returns-2 : tie.Need-returns-2
 unfolding tallyMeans checkMeans tallyRow
 returns-2 c =
     let e = c .tally .ensures ∙ tally-cells (c .before .before .before .before .before .before .args .columns) _ (c .before .before .before .before .before .before .args .a .now) (c .before .planes .ensures) in
-    finished _ _ _ _ (sym (c .before .before .before .before .check .ensures) ∙ sym (c .before .before .before .number .ensures) ∙ c .before .before .if1 .left) (ap (λ (l : List ℕ). (l, eqb (getD l 1 0) (getD l 2 0))) e)
+    finished _ _ _ _ (sym (c .before .before .before .before .check .ensures) ∙ sym (c .before .before .before .word .ensures) ∙ c .before .before .if1 .left) (ap (λ (l : List ℕ). (l, eqb (getD l 1 0) (getD l 2 0))) e)
 
 pub tally-spec : {M : Type 1} → statement M
 tally-spec =
     tie.close
     (tie.spec
     check-requires
-    number-requires
+    word-requires
     returns
     planes-requires
     tally-requires

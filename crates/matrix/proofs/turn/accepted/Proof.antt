@@ -1,6 +1,10 @@
-use mathlib.Core.Path.{refl}
+use mathlib.Core.Path.{ap}
+use mathlib.Core.Bool.{Bool}
+use mathlib.Core.List.{List}
+use Prim.Native.Nat.{ℕ}
 use Rattle.buffers.specs.Buffer.{cell}
 use Rattle.walk.proofs.CountLaws.{skip-within}
+use Rattle.matrix.specs.declared.job.Job.{Job}
 use Rattle.matrix.proofs.JobLaws.{standing-ready, turn-done}
 use borrow.Author.Needs.{needs}
 use Rattle.matrix.proofs.turn.accepted.Statement.{statement}
@@ -12,8 +16,8 @@ sub-least c = search needs
 least-requires : tie.Need-least-requires
 least-requires c κs = search needs
 
-sub-t12 : tie.Need-sub-t12
-sub-t12 c = search needs
+sub-t13 : tie.Need-sub-t13
+sub-t13 c = search needs
 
 blocks-part-requires : tie.Need-blocks-part-requires
 blocks-part-requires c κs =
@@ -35,7 +39,7 @@ returns c =
     let s = c .before .before .before .before .before .before .before .before .before .before .before .before .before .before .before .before .before .before .before in
     let least = c .before .before .before .before .before .before .before .before .before .before .before .before .least in
     let walk = c .before .before .before .before .before .before .before .blocks-part in
-    (refl, turn-done (s .args .job) (s .args .a .now) (s .args .b .now) (s .args .table .now) (s .args .product .now) (walk .last .0) (walk .last .1 .0) (s .args .budget) (least .result) (s .args .at) (s .pre .1) (least .ensures) (walk .ensures))
+    ap (λ (o : Job × (ℕ × (Bool × (List ℕ × List ℕ)))). (0, o)) (turn-done (s .args .job) (s .args .a .now) (s .args .b .now) (s .args .table .now) (s .args .product .now) (walk .last .0) (walk .last .1 .0) (s .args .budget) (least .result) (s .args .at) (s .pre .1) (least .ensures) (walk .ensures))
 
 pub accepted-spec : {M : Type 1} → statement M
 accepted-spec =
@@ -43,7 +47,7 @@ accepted-spec =
     (tie.spec
     sub-least
     least-requires
-    sub-t12
+    sub-t13
     blocks-part-requires
     add-next
     same-length

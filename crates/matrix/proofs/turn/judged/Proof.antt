@@ -5,13 +5,15 @@ use Rattle.cells.proofs.AnyLaws.{or-left, or-right}
 use lib.Dec.{ltb, eqb}
 use Rattle.requests.specs.Answers.{first}
 use Rattle.requests.specs.Sizes.{over}
+use Rattle.requests.specs.declared.Buffer.the-variants.{First, Second, Third, Fourth}
 use Rattle.requests.specs.Faults.{faults}
+use Rattle.requests.proofs.PairLaws.{pair-positive}
 use Rattle.requests.proofs.AnswerLaws.{append-given, append-none}
 use Rattle.requests.proofs.SizeLaws.{over-rows, over-columns}
 use Rattle.walk.proofs.CountLaws.{shift-one}
 use Rattle.matrix.specs.Job.{tableSize, productSize}
 use Rattle.matrix.specs.Turn.{sizeA, sizeB, foundTests}
-use Rattle.matrix.proofs.JobLaws.{fit-a, fit-b, fit-table, fit-product, table-small, product-small, pair-positive}
+use Rattle.matrix.proofs.JobLaws.{fit-a, fit-b, fit-table, fit-product, table-small, product-small}
 use borrow.Author.Needs.{needs}
 use native.Mathlib.Omega.{arith}
 use Rattle.matrix.proofs.turn.judged.Statement.{statement}
@@ -41,17 +43,17 @@ returns-3 c = rw (sym (c .before .before .before .before .before .either-over .e
 either-fault-requires : tie.Need-either-fault-requires
 either-fault-requires c κs = (or-left (over (sizeA (c .before .before .before .before .before .before .before .before .before .before .args .job))) (over (sizeB (c .before .before .before .before .before .before .before .before .before .before .args .job))) (sym (c .before .before .before .before .before .either-over .ensures) ∙ c .before .before .before .before .if1 .left), or-right (over (sizeA (c .before .before .before .before .before .before .before .before .before .before .args .job))) (over (sizeB (c .before .before .before .before .before .before .before .before .before .before .args .job))) (sym (c .before .before .before .before .before .either-over .ensures) ∙ c .before .before .before .before .if1 .left), fit-a (sizeA (c .before .before .before .before .before .before .before .before .before .before .args .job)) (sizeB (c .before .before .before .before .before .before .before .before .before .before .args .job)) (c .before .before .before .before .before .before .before .before .before .before .args .job .width) _ _ _ _ (sym (c .before .misfit .ensures) ∙ c .if3 .left), fit-b (sizeA (c .before .before .before .before .before .before .before .before .before .before .args .job)) (sizeB (c .before .before .before .before .before .before .before .before .before .before .args .job)) (c .before .before .before .before .before .before .before .before .before .before .args .job .width) _ _ _ _ (sym (c .before .misfit .ensures) ∙ c .if3 .left))
 
-number-requires : tie.Need-number-requires
-number-requires c κs = search needs
+word-requires : tie.Need-word-requires
+word-requires c κs = search needs
 
 returns-4 : tie.Need-returns-4
 unfolding foundTests first
 returns-4 c =
     rw (sym (c .before .before .before .before .before .before .before .before .either-over .ensures) ∙ c .before .before .before .before .before .before .before .if1 .left, sym (c .before .before .before .before .before .before .unwide .ensures) ∙ c .before .before .before .before .before .if2 .left, sym (c .before .before .before .before .misfit .ensures) ∙ c .before .before .before .if3 .left)
-    (c .before .before .either-fault .ensures ∙ sym (append-given ((faults (sizeA (c .before .before .before .before .before .before .before .before .before .before .before .before .before .args .job)) (c .before .before .before .before .before .before .before .before .before .before .before .before .before .args .a .now)) ++ (faults (sizeB (c .before .before .before .before .before .before .before .before .before .before .before .before .before .args .job)) (c .before .before .before .before .before .before .before .before .before .before .before .before .before .args .b .now))) ((faults (tableSize (sizeB (c .before .before .before .before .before .before .before .before .before .before .before .before .before .args .job)) (c .before .before .before .before .before .before .before .before .before .before .before .before .before .args .job .width)) (c .before .before .before .before .before .before .before .before .before .before .before .before .before .args .table .now)) ++ (faults (productSize (sizeA (c .before .before .before .before .before .before .before .before .before .before .before .before .before .args .job)) (sizeB (c .before .before .before .before .before .before .before .before .before .before .before .before .before .args .job))) (c .before .before .before .before .before .before .before .before .before .before .before .before .before .args .product .now))) (λ z. c .if4 .taken (c .before .number .ensures ∙ c .before .before .either-fault .ensures ∙ z))))
+    (c .before .before .either-fault .ensures ∙ sym (append-given ((faults First (sizeA (c .before .before .before .before .before .before .before .before .before .before .before .before .before .args .job)) (c .before .before .before .before .before .before .before .before .before .before .before .before .before .args .a .now)) ++ (faults Second (sizeB (c .before .before .before .before .before .before .before .before .before .before .before .before .before .args .job)) (c .before .before .before .before .before .before .before .before .before .before .before .before .before .args .b .now))) ((faults Third (tableSize (sizeB (c .before .before .before .before .before .before .before .before .before .before .before .before .before .args .job)) (c .before .before .before .before .before .before .before .before .before .before .before .before .before .args .job .width)) (c .before .before .before .before .before .before .before .before .before .before .before .before .before .args .table .now)) ++ (faults Fourth (productSize (sizeA (c .before .before .before .before .before .before .before .before .before .before .before .before .before .args .job)) (sizeB (c .before .before .before .before .before .before .before .before .before .before .before .before .before .args .job))) (c .before .before .before .before .before .before .before .before .before .before .before .before .before .args .product .now))) (λ z. c .if4 .taken (c .before .word .ensures ∙ c .before .before .either-fault .ensures ∙ z))))
 
-shl-t19 : tie.Need-shl-t19
-shl-t19 c =
+shl-t24 : tie.Need-shl-t24
+shl-t24 c =
     let h = ltb-false 8 (c .before .before .before .before .before .before .before .before .before .before .before .before .before .args .job .width) (or-right (eqb (c .before .before .before .before .before .before .before .before .before .before .before .before .before .args .job .width) 0) (ltb 8 (c .before .before .before .before .before .before .before .before .before .before .before .before .before .args .job .width)) (sym (c .before .before .before .before .before .before .unwide .ensures) ∙ c .before .before .before .before .before .if2 .left)) in
     omega arith
 
@@ -64,7 +66,7 @@ returns-5 : tie.Need-returns-5
 unfolding foundTests first
 returns-5 c =
     rw (sym (c .before .before .before .before .before .before .before .before .before .either-over .ensures) ∙ c .before .before .before .before .before .before .before .before .if1 .left, sym (c .before .before .before .before .before .before .before .unwide .ensures) ∙ c .before .before .before .before .before .before .if2 .left, sym (c .before .before .before .before .before .misfit .ensures) ∙ c .before .before .before .before .if3 .left)
-    ((rw (shift-one (c .before .before .before .before .before .before .before .before .before .before .before .before .before .before .args .job .width) (ltb-false 8 (c .before .before .before .before .before .before .before .before .before .before .before .before .before .before .args .job .width) (or-right (eqb (c .before .before .before .before .before .before .before .before .before .before .before .before .before .before .args .job .width) 0) (ltb 8 (c .before .before .before .before .before .before .before .before .before .before .before .before .before .before .args .job .width)) (sym (c .before .before .before .before .before .before .before .unwide .ensures) ∙ c .before .before .before .before .before .before .if2 .left)))) at (c .either-fault2 .ensures)) ∙ sym (append-none ((faults (sizeA (c .before .before .before .before .before .before .before .before .before .before .before .before .before .before .args .job)) (c .before .before .before .before .before .before .before .before .before .before .before .before .before .before .args .a .now)) ++ (faults (sizeB (c .before .before .before .before .before .before .before .before .before .before .before .before .before .before .args .job)) (c .before .before .before .before .before .before .before .before .before .before .before .before .before .before .args .b .now))) ((faults (tableSize (sizeB (c .before .before .before .before .before .before .before .before .before .before .before .before .before .before .args .job)) (c .before .before .before .before .before .before .before .before .before .before .before .before .before .before .args .job .width)) (c .before .before .before .before .before .before .before .before .before .before .before .before .before .before .args .table .now)) ++ (faults (productSize (sizeA (c .before .before .before .before .before .before .before .before .before .before .before .before .before .before .args .job)) (sizeB (c .before .before .before .before .before .before .before .before .before .before .before .before .before .before .args .job))) (c .before .before .before .before .before .before .before .before .before .before .before .before .before .before .args .product .now))) (pair-positive (sizeA (c .before .before .before .before .before .before .before .before .before .before .before .before .before .before .args .job)) (sizeB (c .before .before .before .before .before .before .before .before .before .before .before .before .before .before .args .job)) _ _) (sym (c .before .before .before .either-fault .ensures) ∙ sym (c .before .before .number .ensures) ∙ c .before .if4 .left)))
+    ((rw (shift-one (c .before .before .before .before .before .before .before .before .before .before .before .before .before .before .args .job .width) (ltb-false 8 (c .before .before .before .before .before .before .before .before .before .before .before .before .before .before .args .job .width) (or-right (eqb (c .before .before .before .before .before .before .before .before .before .before .before .before .before .before .args .job .width) 0) (ltb 8 (c .before .before .before .before .before .before .before .before .before .before .before .before .before .before .args .job .width)) (sym (c .before .before .before .before .before .before .before .unwide .ensures) ∙ c .before .before .before .before .before .before .if2 .left)))) at (c .either-fault2 .ensures)) ∙ sym (append-none ((faults First (sizeA (c .before .before .before .before .before .before .before .before .before .before .before .before .before .before .args .job)) (c .before .before .before .before .before .before .before .before .before .before .before .before .before .before .args .a .now)) ++ (faults Second (sizeB (c .before .before .before .before .before .before .before .before .before .before .before .before .before .before .args .job)) (c .before .before .before .before .before .before .before .before .before .before .before .before .before .before .args .b .now))) ((faults Third (tableSize (sizeB (c .before .before .before .before .before .before .before .before .before .before .before .before .before .before .args .job)) (c .before .before .before .before .before .before .before .before .before .before .before .before .before .before .args .job .width)) (c .before .before .before .before .before .before .before .before .before .before .before .before .before .before .args .table .now)) ++ (faults Fourth (productSize (sizeA (c .before .before .before .before .before .before .before .before .before .before .before .before .before .before .args .job)) (sizeB (c .before .before .before .before .before .before .before .before .before .before .before .before .before .before .args .job))) (c .before .before .before .before .before .before .before .before .before .before .before .before .before .before .args .product .now))) (pair-positive First Second (sizeA (c .before .before .before .before .before .before .before .before .before .before .before .before .before .before .args .job)) (sizeB (c .before .before .before .before .before .before .before .before .before .before .before .before .before .before .args .job)) _ _) (sym (c .before .before .before .either-fault .ensures) ∙ sym (c .before .before .word .ensures) ∙ c .before .if4 .left)))
 
 pub judged-spec : {M : Type 1} → statement M
 judged-spec =
@@ -77,8 +79,8 @@ judged-spec =
     misfit-requires
     returns-3
     either-fault-requires
-    number-requires
+    word-requires
     returns-4
-    shl-t19
+    shl-t24
     either-fault-requires-2
     returns-5)

@@ -31,8 +31,8 @@ part-read-row-end c = search needs
 read-row-requires : tie.Need-read-row-requires
 read-row-requires c κs = search needs
 
-number-requires : tie.Need-number-requires
-number-requires c κs = search needs
+word-requires : tie.Need-word-requires
+word-requires c κs = search needs
 
 same-length : tie.Need-same-length
 same-length c = search needs
@@ -40,7 +40,7 @@ same-length c = search needs
 returns-2 : tie.Need-returns-2
 returns-2 c = let e : c .before .before .before .before .before .before .before .before .before .args .at + c .before .before .before .before .before .before .before .before .before .args .line - c .before .before .before .before .before .before .before .before .before .args .at ≡ c .before .before .before .before .before .before .before .before .before .args .line = omega arith in
     let r = row-read (c .before .before .before .before .before .before .before .before .before .args .columns) (take (c .before .before .before .before .before .before .before .before .before .args .line) (drop (c .before .before .before .before .before .before .before .before .before .args .at) (c .before .before .before .before .before .before .before .before .before .args .text .now))) (c .before .before .before .before .before .before .before .before .before .args .row .now) _ _ (c .before .before .before .before .before .before .before .before .before .pre .1) (c .before .before .before .before .before .before .before .before .before .pre .3) (rw e at (c .before .before .before .read-row .ensures)) in
-    (rw (c .number .ensures) (r .0), λ f. (omega (arith, c .before .before .before .before .before .before .if1 .left), r .1 (rw (c .number .ensures) at f)))
+    (rw (c .word .ensures) (r .0), λ f. (omega (arith, c .before .before .before .before .before .before .if1 .left), r .1 (rw (c .word .ensures) at f)))
 
 pub row-in-spec : {M : Type 1} → statement M
 row-in-spec =
@@ -52,6 +52,6 @@ row-in-spec =
     part-read-row-start
     part-read-row-end
     read-row-requires
-    number-requires
+    word-requires
     same-length
     returns-2)

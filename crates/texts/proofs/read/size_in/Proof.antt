@@ -25,23 +25,23 @@ part-read-header-end c = search needs
 read-header-requires : tie.Need-read-header-requires
 read-header-requires c κs = search needs
 
-number-requires : tie.Need-number-requires
-number-requires c κs = search needs
+word-requires : tie.Need-word-requires
+word-requires c κs = search needs
 
 returns-2 : tie.Need-returns-2
 returns-2 c = let e : c .before .before .before .before .before .before .args .start + 9 - c .before .before .before .before .before .before .args .start ≡ 9 = omega arith in
-    size-refused (drop (c .before .before .before .before .before .before .args .start) (c .before .before .before .before .before .before .args .text .now)) _ _ _ (rw e at (c .before .before .read-header .ensures)) (λ z. c .if2 .taken (c .before .number .ensures ∙ z))
+    size-refused (drop (c .before .before .before .before .before .before .args .start) (c .before .before .before .before .before .before .args .text .now)) _ _ _ (rw e at (c .before .before .read-header .ensures)) (λ z. c .if2 .taken (c .before .word .ensures ∙ z))
 
 above-requires : tie.Need-above-requires
 above-requires c κs = search needs
 
 returns-3 : tie.Need-returns-3
 returns-3 c = let e : c .before .before .before .before .before .before .before .before .args .start + 9 - c .before .before .before .before .before .before .before .before .args .start ≡ 9 = omega arith in
-    size-above (drop (c .before .before .before .before .before .before .before .before .args .start) (c .before .before .before .before .before .before .before .before .args .text .now)) _ _ _ (rw e at (c .before .before .before .before .read-header .ensures)) (sym (c .before .before .before .number .ensures) ∙ c .before .before .if2 .left) (sym (c .if3 .taken) ∙ c .before .above .ensures)
+    size-above (drop (c .before .before .before .before .before .before .before .before .args .start) (c .before .before .before .before .before .before .before .before .args .text .now)) _ _ _ (rw e at (c .before .before .before .before .read-header .ensures)) (sym (c .before .before .before .word .ensures) ∙ c .before .before .if2 .left) (sym (c .if3 .taken) ∙ c .before .above .ensures)
 
 returns-4 : tie.Need-returns-4
 returns-4 c = let e : c .before .before .before .before .before .before .before .before .args .start + 9 - c .before .before .before .before .before .before .before .before .args .start ≡ 9 = omega arith in
-    size-done (drop (c .before .before .before .before .before .before .before .before .args .start) (c .before .before .before .before .before .before .before .before .args .text .now)) _ _ _ (rw e at (c .before .before .before .before .read-header .ensures)) (sym (c .before .before .before .number .ensures) ∙ c .before .before .if2 .left) (sym (c .if3 .left) ∙ c .before .above .ensures)
+    size-done (drop (c .before .before .before .before .before .before .before .before .args .start) (c .before .before .before .before .before .before .before .before .args .text .now)) _ _ _ (rw e at (c .before .before .before .before .read-header .ensures)) (sym (c .before .before .before .word .ensures) ∙ c .before .before .if2 .left) (sym (c .if3 .left) ∙ c .before .above .ensures)
 
 pub size-in-spec : {M : Type 1} → statement M
 size-in-spec =
@@ -53,7 +53,7 @@ size-in-spec =
     part-read-header-start
     part-read-header-end
     read-header-requires
-    number-requires
+    word-requires
     returns-2
     above-requires
     returns-3

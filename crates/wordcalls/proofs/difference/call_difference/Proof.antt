@@ -9,8 +9,8 @@ use Rattle.wordcalls.proofs.difference.call_difference.Tie as tie
 difference-requires : tie.Need-difference-requires
 difference-requires c κs = search needs
 
-number-requires : tie.Need-number-requires
-number-requires c κs = search needs
+word-requires : tie.Need-word-requires
+word-requires c κs = search needs
 
 same-length : tie.Need-same-length
 same-length c = search needs
@@ -21,8 +21,8 @@ returns c =
     let made = c .before .before .before .difference in
     let x : Size = record { rows = given .a-rows; columns = given .a-columns } in
     let y : Size = record { rows = given .b-rows; columns = given .b-columns } in
-    rw (c .number .ensures)
+    rw (c .word .ensures)
     (seen (difference-exact x y (given .a .now) (given .b .now) (given .out .now) (made .result) _ (made .ensures)) (difference-right x y (given .a .now) (given .b .now) (given .out .now) (made .result) _ (made .ensures)))
 
 pub call-difference-spec : {M : Type 1} → statement M
-call-difference-spec = tie.close (tie.spec difference-requires number-requires same-length returns)
+call-difference-spec = tie.close (tie.spec difference-requires word-requires same-length returns)

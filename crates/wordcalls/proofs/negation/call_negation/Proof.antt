@@ -9,8 +9,8 @@ use Rattle.wordcalls.proofs.negation.call_negation.Tie as tie
 negation-requires : tie.Need-negation-requires
 negation-requires c κs = search needs
 
-number-requires : tie.Need-number-requires
-number-requires c κs = search needs
+word-requires : tie.Need-word-requires
+word-requires c κs = search needs
 
 same-length : tie.Need-same-length
 same-length c = search needs
@@ -20,8 +20,8 @@ returns c =
     let given = c .before .before .before .before .before .before .before .args in
     let made = c .before .before .before .negation in
     let s : Size = record { rows = given .rows; columns = given .columns } in
-    rw (c .number .ensures)
+    rw (c .word .ensures)
     (seen (negation-exact s (given .a .now) (given .out .now) (made .result) _ (made .ensures)) (negation-right s (given .a .now) (given .out .now) (made .result) _ (made .ensures)))
 
 pub call-negation-spec : {M : Type 1} → statement M
-call-negation-spec = tie.close (tie.spec negation-requires number-requires same-length returns)
+call-negation-spec = tie.close (tie.spec negation-requires word-requires same-length returns)

@@ -9,8 +9,8 @@ use Rattle.wordcalls.proofs.pack.call_pack.Tie as tie
 pack-requires : tie.Need-pack-requires
 pack-requires c κs = search needs
 
-number-requires : tie.Need-number-requires
-number-requires c κs = search needs
+word-requires : tie.Need-word-requires
+word-requires c κs = search needs
 
 same-length : tie.Need-same-length
 same-length c = search needs
@@ -20,8 +20,8 @@ returns c =
     let given = c .before .before .before .before .before .before .before .args in
     let made = c .before .before .before .pack in
     let s : Size = record { rows = given .rows; columns = given .columns } in
-    rw (c .number .ensures)
+    rw (c .word .ensures)
     (seen (pack-exact s (given .cells .now) (given .out .now) (made .result) _ (made .ensures)) (pack-right s (given .cells .now) (given .out .now) (made .result) _ (made .ensures)))
 
 pub call-pack-spec : {M : Type 1} → statement M
-call-pack-spec = tie.close (tie.spec pack-requires number-requires same-length returns)
+call-pack-spec = tie.close (tie.spec pack-requires word-requires same-length returns)

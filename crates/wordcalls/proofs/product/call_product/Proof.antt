@@ -9,8 +9,8 @@ use Rattle.wordcalls.proofs.product.call_product.Tie as tie
 product-requires : tie.Need-product-requires
 product-requires c κs = search needs
 
-number-requires : tie.Need-number-requires
-number-requires c κs = search needs
+word-requires : tie.Need-word-requires
+word-requires c κs = search needs
 
 same-length : tie.Need-same-length
 same-length c = search needs
@@ -24,8 +24,8 @@ returns c =
     let made = c .before .before .before .before .before .product in
     let x : Size = record { rows = given .a-rows; columns = given .a-columns } in
     let y : Size = record { rows = given .b-rows; columns = given .b-columns } in
-    rw (c .number .ensures)
+    rw (c .word .ensures)
     (seen (product-exact x y (given .width) (given .a .now) (given .b .now) (given .table .now) (given .product .now) (made .result) _ (made .ensures)) (product-right x y (given .width) (given .a .now) (given .b .now) (given .table .now) (given .product .now) (made .result) _ _ (made .ensures)))
 
 pub call-product-spec : {M : Type 1} → statement M
-call-product-spec = tie.close (tie.spec product-requires number-requires same-length same-length-2 returns)
+call-product-spec = tie.close (tie.spec product-requires word-requires same-length same-length-2 returns)

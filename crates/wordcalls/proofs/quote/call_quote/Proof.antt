@@ -7,15 +7,15 @@ use Rattle.wordcalls.proofs.quote.call_quote.Tie as tie
 quote-requires : tie.Need-quote-requires
 quote-requires c κs = search needs
 
-number-requires : tie.Need-number-requires
-number-requires c κs = search needs
+word-requires : tie.Need-word-requires
+word-requires c κs = search needs
 
 returns : tie.Need-returns
 returns c =
     let given = c .before .before .args in
     let made = c .before .quote in
     let s : Size = record { rows = given .rows; columns = given .columns } in
-    rw (c .number .ensures) (quote-exact s (given .width) (made .result .answer) (made .result .steps) (made .ensures))
+    rw (c .word .ensures) (quote-exact s (given .width) (made .result .answer) (made .result .steps) (made .ensures))
 
 pub call-quote-spec : {M : Type 1} → statement M
-call-quote-spec = tie.close (tie.spec quote-requires number-requires returns)
+call-quote-spec = tie.close (tie.spec quote-requires word-requires returns)

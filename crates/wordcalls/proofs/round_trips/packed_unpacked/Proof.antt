@@ -8,8 +8,8 @@ use Rattle.wordcalls.proofs.round_trips.packed_unpacked.Tie as tie
 pack-requires : tie.Need-pack-requires
 pack-requires c κs = search needs
 
-number-requires : tie.Need-number-requires
-number-requires c κs = search needs
+word-requires : tie.Need-word-requires
+word-requires c κs = search needs
 
 same-length : tie.Need-same-length
 same-length c = search needs
@@ -17,13 +17,13 @@ same-length c = search needs
 returns : tie.Need-returns
 returns c =
     let given = c .before .before .before .before .before .before .before .before .before .args in
-    λ h room. absurd (c .if1 .taken (c .before .number .ensures ∙ pack-exact (given .s) (given .cells .now) (given .words .now) (c .before .before .before .before .pack .result) _ (c .before .before .before .before .pack .ensures) .numbered .done .1 h))
+    λ h room. absurd (c .if1 .taken (c .before .word .ensures ∙ pack-exact (given .s) (given .cells .now) (given .words .now) (c .before .before .before .before .pack .result) _ (c .before .before .before .before .pack .ensures) .numbered .done .1 h))
 
 unpack-requires : tie.Need-unpack-requires
 unpack-requires c κs = search needs
 
-number-requires-2 : tie.Need-number-requires-2
-number-requires-2 c κs = search needs
+word-requires-2 : tie.Need-word-requires-2
+word-requires-2 c κs = search needs
 
 same-length-2 : tie.Need-same-length-2
 same-length-2 c = search needs
@@ -36,21 +36,21 @@ returns-2 c =
     let given = c .before .before .before .before .before .before .before .before .before .before .before .before .before .before .before .args in
     let first = c .before .before .before .before .before .before .before .before .before .before .pack in
     let second = c .before .before .before .unpack in
-    let done = sym (c .before .before .before .before .before .before .before .number .ensures) ∙ c .before .before .before .before .before .before .if1 .left in
+    let done = sym (c .before .before .before .before .before .before .before .word .ensures) ∙ c .before .before .before .before .before .before .if1 .left in
     λ h room.
     let both = pack-then-unpack (given .s) (given .cells .now) (given .words .now) (given .back .now) (first .result) (second .result) _ _ (first .ensures) done (second .ensures) room in
-    (c .number2 .ensures ∙ both .0, both .1)
+    (c .word2 .ensures ∙ both .0, both .1)
 
 pub packed-unpacked-spec : {M : Type 1} → statement M
 packed-unpacked-spec =
     tie.close
     (tie.spec
     pack-requires
-    number-requires
+    word-requires
     same-length
     returns
     unpack-requires
-    number-requires-2
+    word-requires-2
     same-length-2
     same-length-3
     returns-2)

@@ -9,8 +9,8 @@ use Rattle.wordcalls.proofs.sum.call_sum.Tie as tie
 sum-requires : tie.Need-sum-requires
 sum-requires c κs = search needs
 
-number-requires : tie.Need-number-requires
-number-requires c κs = search needs
+word-requires : tie.Need-word-requires
+word-requires c κs = search needs
 
 same-length : tie.Need-same-length
 same-length c = search needs
@@ -21,8 +21,8 @@ returns c =
     let made = c .before .before .before .sum in
     let x : Size = record { rows = given .a-rows; columns = given .a-columns } in
     let y : Size = record { rows = given .b-rows; columns = given .b-columns } in
-    rw (c .number .ensures)
+    rw (c .word .ensures)
     (seen (sum-exact x y (given .a .now) (given .b .now) (given .out .now) (made .result) _ (made .ensures)) (sum-right x y (given .a .now) (given .b .now) (given .out .now) (made .result) _ (made .ensures)))
 
 pub call-sum-spec : {M : Type 1} → statement M
-call-sum-spec = tie.close (tie.spec sum-requires number-requires same-length returns)
+call-sum-spec = tie.close (tie.spec sum-requires word-requires same-length returns)

@@ -25,8 +25,8 @@ array-read-t13 c = search needs
 array-read-t16 : tie.Need-array-read-t16
 array-read-t16 c = search needs
 
-number-requires : tie.Need-number-requires
-number-requires c κs = search needs
+word-requires : tie.Need-word-requires
+word-requires c κs = search needs
 
 four : List ℕ × Bool → List ℕ
 four o = getD (o .0) 0 0 ∷ getD (o .0) 1 0 ∷ getD (o .0) 2 0 ∷ boolByte (o .1) ∷ []
@@ -36,7 +36,7 @@ unfolding four tallyRow
 returns c =
     let given = c .before .before .before .before .before .before .args in
     let made = c .before .before .before .before .tally in
-    rw (c .number .ensures, ← flag) (mapped four (tally-exact (given .columns) (given .a .now) (made .result) (made .ensures)))
+    rw (c .word .ensures, ← flag) (mapped four (tally-exact (given .columns) (given .a .now) (made .result) (made .ensures)))
 
 pub call-tally-spec : {M : Type 1} → statement M
-call-tally-spec = tie.close (tie.spec tally-requires cast-balanced array-read-t10 array-read-t13 array-read-t16 number-requires returns)
+call-tally-spec = tie.close (tie.spec tally-requires cast-balanced array-read-t10 array-read-t13 array-read-t16 word-requires returns)

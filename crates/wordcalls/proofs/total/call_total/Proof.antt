@@ -13,8 +13,8 @@ use Rattle.wordcalls.proofs.total.call_total.Tie as tie
 total-requires : tie.Need-total-requires
 total-requires c κs = search needs
 
-number-requires : tie.Need-number-requires
-number-requires c κs = search needs
+word-requires : tie.Need-word-requires
+word-requires c κs = search needs
 
 returns : tie.Need-returns
 unfolding total
@@ -23,8 +23,8 @@ returns c =
     let made = c .before .total in
     let s : Size = record { rows = given .rows; columns = given .columns } in
     let E = total-exact s (given .width) (given .a .now) (made .result .answer) (made .result .steps) (made .ensures) in
-    rw (c .number .ensures)
+    rw (c .word .ensures)
     (seen E (λ z. (E .right z, omega (arith, E .right z, total-le (given .rows) (given .columns) (meant (given .width)) (cell (given .columns) (given .a .now))))))
 
 pub call-total-spec : {M : Type 1} → statement M
-call-total-spec = tie.close (tie.spec total-requires number-requires returns)
+call-total-spec = tie.close (tie.spec total-requires word-requires returns)

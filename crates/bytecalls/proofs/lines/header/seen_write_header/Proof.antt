@@ -7,8 +7,8 @@ use Rattle.bytecalls.proofs.lines.header.seen_write_header.Tie as tie
 write-header-requires : tie.Need-write-header-requires
 write-header-requires c κs = search needs
 
-number-requires : tie.Need-number-requires
-number-requires c κs = search needs
+word-requires : tie.Need-word-requires
+word-requires c κs = search needs
 
 same-length : tie.Need-same-length
 same-length c = search needs
@@ -17,8 +17,8 @@ returns : tie.Need-returns
 returns c =
     let given = c .before .before .before .before .before .before .args in
     let s : Size = record { rows = given .rows; columns = given .columns } in
-    rw (c .number .ensures) (write-header-exact s (given .line .now) _ _ (c .before .before .before .write-header .ensures))
+    rw (c .word .ensures) (write-header-exact s (given .line .now) _ _ (c .before .before .before .write-header .ensures))
 
 pub seen-write-header-spec : {M : Type 1} → statement M
 seen-write-header-spec =
-    tie.close (tie.spec write-header-requires number-requires same-length returns)
+    tie.close (tie.spec write-header-requires word-requires same-length returns)

@@ -6,8 +6,8 @@ use Rattle.bytecalls.proofs.lines.row_line.seen_write_row.Tie as tie
 write-row-requires : tie.Need-write-row-requires
 write-row-requires c κs = search needs
 
-number-requires : tie.Need-number-requires
-number-requires c κs = search needs
+word-requires : tie.Need-word-requires
+word-requires c κs = search needs
 
 same-length : tie.Need-same-length
 same-length c = search needs
@@ -15,7 +15,7 @@ same-length c = search needs
 returns : tie.Need-returns
 returns c =
     let given = c .before .before .before .before .before .before .before .args in
-    rw (c .number .ensures) (write-row-exact (given .columns) (given .words .now) (given .line .now) _ _ (c .before .before .before .write-row .ensures))
+    rw (c .word .ensures) (write-row-exact (given .columns) (given .words .now) (given .line .now) _ _ (c .before .before .before .write-row .ensures))
 
 pub seen-write-row-spec : {M : Type 1} → statement M
-seen-write-row-spec = tie.close (tie.spec write-row-requires number-requires same-length returns)
+seen-write-row-spec = tie.close (tie.spec write-row-requires word-requires same-length returns)

@@ -1,7 +1,7 @@
-use mathlib.Core.Path.{sym}
+use Rattle.requests.proofs.FaultLaws.{stray-none}
 use native.Mathlib.Omega.{arith}
-use Rattle.requests.proofs.faults.stray.Statement.{statement}
-use Rattle.requests.proofs.faults.stray.Tie as tie
+use Rattle.requests.proofs.faults.stray_row.Statement.{statement}
+use Rattle.requests.proofs.faults.stray_row.Tie as tie
 
 planes-requires : tie.Need-planes-requires
 planes-requires c κs = omega arith
@@ -16,7 +16,7 @@ strays-requires : tie.Need-strays-requires
 strays-requires c κs = c .before .before .before .pre
 
 returns-2 : tie.Need-returns-2
-returns-2 c = sym (c .before .strays .ensures (c .if2 .taken))
+returns-2 c = stray-none _ _ _ (c .before .strays .ensures (c .if2 .taken))
 
 stray-by-row-requires-2 : tie.Need-stray-by-row-requires-2
 stray-by-row-requires-2 c κs = c .before .before .before .before .before .pre
@@ -24,8 +24,8 @@ stray-by-row-requires-2 c κs = c .before .before .before .before .before .pre
 returns-3 : tie.Need-returns-3
 returns-3 c = c .stray-by-row2 .ensures
 
-pub stray-spec : {M : Type 1} → statement M
-stray-spec =
+pub stray-row-spec : {M : Type 1} → statement M
+stray-row-spec =
     tie.close
     (tie.spec
     planes-requires

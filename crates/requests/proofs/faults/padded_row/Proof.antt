@@ -3,10 +3,10 @@ use mathlib.Core.Bool.{false}
 use Prim.Native.Nat.{_-_, _≤_}
 use Rattle.buffers.specs.Fault.{padded}
 use Rattle.buffers.proofs.SizeLaws.{planes-le, words-le, row-fits}
-use Rattle.requests.proofs.FaultLaws.{padded-begin, padded-next, padded-stop}
+use Rattle.requests.proofs.FaultLaws.{padded-begin, padded-next, padded-stop, padded-none}
 use native.Mathlib.Omega.{arith}
-use Rattle.requests.proofs.faults.padded.Statement.{statement}
-use Rattle.requests.proofs.faults.padded.Tie as tie
+use Rattle.requests.proofs.faults.padded_row.Statement.{statement}
+use Rattle.requests.proofs.faults.padded_row.Tie as tie
 
 abbrev Inv-loop : tie.InvT-loop
 Inv-loop r c a q w i₀ i = (i ≤ r) × (padded i c a ≡ false)
@@ -30,7 +30,7 @@ padded-requires : tie.Need-padded-requires Inv-loop μ-loop
 padded-requires c κs = (c .before .before .planes .ensures, c .before .before .before .before .pre .1, row-fits _ _ (c .before .loop .i) _ _ (c .before .before .planes .ensures) (c .before .before .before .before .pre .2) (omega arith))
 
 returns : tie.Need-returns Inv-loop μ-loop
-returns c = padded-stop _ _ _ (c .before .before .before .before .planes .ensures) (c .before .before .before .loop .i) _ (omega arith) (sym (c .before .padded .ensures) ∙ c .if1 .taken)
+returns c = padded-stop _ _ _ (c .before .before .before .before .planes .ensures) (c .before .before .before .loop .i) _ (omega arith) (c .before .before .before .loop .inv .1) (sym (c .before .padded .ensures) ∙ c .if1 .taken)
 
 add-i : tie.Need-add-i Inv-loop μ-loop
 add-i c = omega arith
@@ -44,10 +44,10 @@ loop-again c = (omega arith, padded-next _ _ _ (c .before .before .before .befor
 returns-2 : tie.Need-returns-2 Inv-loop μ-loop
 returns-2 c =
     let e : c .before .loop .i ≡ c .before .before .before .before .args .r = omega arith in
-    sym (rw e at (c .before .loop .inv .1))
+    padded-none _ _ _ (rw e at (c .before .loop .inv .1))
 
-pub padded-spec : {M : Type 1} → statement M
-padded-spec =
+pub padded-row-spec : {M : Type 1} → statement M
+padded-row-spec =
     tie.close
     (tie.spec
     Inv-loop
