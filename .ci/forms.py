@@ -3,17 +3,27 @@ import re
 
 from source import leaves, split, unwrapped
 
-# Results that are a number and nothing else, and how a contract names it.
-NUMBERS = {'Answer': 'number r', 'u64': 'r', 'usize': 'r'}
+# Results that are a word and nothing else, and how a contract names it.
+WORDS = {'Answer': 'word r', 'u64': 'r', 'usize': 'r'}
+# Results that are enums with values of their own, and the definition that gives word and values for each case, with what is left in the buffers.
+ENUMS = {'Opened': 'opened', 'Turned': 'turned'}
 
 
 def outcome(function, structs):
-    """All that a function leaves: its number, the other fields of its struct, and what it was lent to be written."""
-    if function.returns in structs:
-        result = ['number (r .answer)'] + [f'r .{name}' for name in structs[function.returns] if name != 'answer']
+    """All that a function leaves: its word, the other fields of its struct or its whole enum, and what it was lent to be written."""
+    if function.returns in ENUMS:
+        result = [ENUMS[function.returns], 'r']
+    elif function.returns in structs:
+        result = ['word (r .answer)'] + [f'r .{name}' for name in structs[function.returns] if name != 'answer']
     else:
-        result = [NUMBERS[function.returns]]
+        result = [WORDS[function.returns]]
     return result + [f'now ({name} .exit)' for name, kind in function.parameters if kind.startswith('&mut ')]
+
+
+def left_parts(left):
+    """The parts of an equation's left side: of a pair, or what the definition of an enum is handed, that definition first."""
+    head, *rest = split(left, ' ')
+    return [head] + [unwrapped(part) for part in rest] if head in ENUMS.values() else leaves(left)
 
 
 def arguments(function):
@@ -41,7 +51,7 @@ def compared(side, found, wanted):
 def contract_faults(function, definition, structs):
     """The contract is one equation: all that the function leaves is the definition of all that it is handed. Nothing is required."""
     kinds = [kind for kind, _ in function.clauses]
-    hidden = {definition, 'number', 'now', 'r'} & {name for name, _ in function.parameters}
+    hidden = {definition, 'word', 'now', 'r', *ENUMS.values()} & {name for name, _ in function.parameters}
     if hidden:
         yield f'its parameter {", ".join(sorted(hidden))} hides what its contract is made of'
     if 'requires' in kinds:
@@ -54,14 +64,14 @@ def contract_faults(function, definition, structs):
     if len(sides) != 2:
         yield 'its ensures is not one equation, { λ r. ⌜ .. ≡ .. ⌝ }'
         return
-    if function.returns not in NUMBERS and 'answer' not in structs.get(function.returns, []):
-        yield f'it gives a {function.returns}, which is no number and no struct of its crate with an answer'
+    if function.returns not in {*WORDS, *ENUMS} and 'answer' not in structs.get(function.returns, []):
+        yield f'it gives a {function.returns}, which is no word, no enum with a definition and no struct of its crate with an answer'
         return
     head, *given = split(sides[1], ' ')
     if head != definition:
         yield f'the right side of its equation is not {definition} of what it is handed'
         return
-    yield from compared('left', leaves(sides[0]), outcome(function, structs))
+    yield from compared('left', left_parts(sides[0]), outcome(function, structs))
     yield from compared('right', [unwrapped(part) for part in given], arguments(function))
 
 
@@ -70,8 +80,9 @@ def own_equation(hypothesis, definitions, bound):
     words = split(hypothesis, ' ')
     left, right = (words[2], unwrapped(words[3])) if words[0] == '_≡_' and len(words) == 4 else (split(hypothesis, '≡') + ['', ''])[:2]
     head, *given = split(right, ' ') or ['']
-    parts = leaves(left)
-    variables = [re.fullmatch(r'(?:number )?\(?([^\s().]+)(?: \.\w+)?\)?', part) for part in parts]
+    parts = left_parts(left)
+    parts = parts[parts[:1] != [] and parts[0] in ENUMS.values():]
+    variables = [re.fullmatch(r'(?:word )?\(?([^\s().]+)(?: \.\w+)?\)?', part) for part in parts]
     if head not in definitions or not all(variables) or len(split(hypothesis, '≡')) > 2:
         return None
     named = {match[1] for match in variables}
@@ -89,7 +100,8 @@ def conclusion_fault(column, theorem, definitions):
     elif column == 'one':
         pairs = [split(unwrapped(part), '≡') for part in split(theorem.conclusion, '×')]
         equations = [own_equation(hypothesis, definitions, theorem.bound) for hypothesis in theorem.hypotheses]
-        good = len(equations) == 2 and all(equations) and len(pairs) == len(equations[0][0])
+        equations = [equation for equation in equations if equation]
+        good = len(equations) == 2 and len(pairs) == len(equations[0][0])
         good = good and all(len(pair) == 2 and pair[0] != pair[1] and pair[0] == pair[1].replace('′', '') for pair in pairs)
     else:
         good = True

@@ -12,6 +12,8 @@ DATA = {
     'List': 'mathlib.Core.List',
     'Size': 'Rattle.requests.specs.declared.Size',
     'Answer': 'Rattle.requests.specs.declared.Answer',
+    'Opened': 'Rattle.matrix.specs.declared.opening.Opened',
+    'Turned': 'Rattle.matrix.specs.declared.turn.Turned',
     'Job': 'Rattle.matrix.specs.declared.job.Job',
     'Tallied': 'Rattle.matrix.specs.declared.tally.Tallied',
     'Header': 'Rattle.frames.specs.declared.header.Header',
@@ -20,8 +22,10 @@ DATA = {
     'Step': 'Rattle.steps.specs.Step',
     'Place': 'Rattle.steps.specs.Turn',
 }
+# A name of two such types, in crates that do not meet: a place in the list of steps, and that of a cell.
+ALSO = {'Place': 'Rattle.requests.specs.declared.Place'}
 # What contracts and theorems are made of, beside their own definitions.
-HOMES = {**DATA, '_≡_': 'mathlib.Core.Path', 'number': 'Rattle.requests.specs.Answers'}
+HOMES = {**DATA, '_≡_': 'mathlib.Core.Path', 'word': 'Rattle.requests.specs.Answers'}
 
 
 def split(text, mark):
@@ -185,7 +189,7 @@ class Source:
         if self.commented:
             return 'has a comment of more than a line, which looks like what it comments on'
         for name, home in HOMES.items():
-            if set(self.origins(name)) - {home}:
+            if set(self.origins(name)) - {home, ALSO.get(name)}:
                 return f'has {name} from {" and ".join(self.origins(name))}, and not from {home}'
         again = [name for name, theorems in self.theorems.items() if any(name in theorem.bound for theorem in theorems)]
         return f'defines {", ".join(again)} where a parameter has that name' if self.proof and again else ''

@@ -176,6 +176,17 @@ static void fill_one_to_cells(struct work *w)
     SIDE(c_##name, matrix_##name, __VA_ARGS__)
 
 REQUEST(check, WORDS(0))
+// A fault in the last row: 0 where it was refused each time.
+#define REFUSED_SIDE(side, function, ...)                         \
+    static uint64_t side(struct work *w, size_t times)            \
+    {                                                             \
+        uint64_t done = 0;                                        \
+        for (size_t i = 0; i < times; i++)                        \
+            done |= function(w->size, w->size, __VA_ARGS__) == 0; \
+        return done;                                              \
+    }
+REFUSED_SIDE(ours_refused_check, bench_check, WORDS(0))
+REFUSED_SIDE(c_refused_check, matrix_check, WORDS(0))
 REQUEST(sum, WORDS(0), WORDS(1), WORDS(2))
 REQUEST(difference, WORDS(0), WORDS(1), WORDS(2))
 REQUEST(negation, WORDS(0), WORDS(1))
@@ -287,6 +298,13 @@ static bool spoil_cells(struct work *w, int buffer, int way)
     return way == 0;
 }
 
+// The last cell holds sign without unit.
+static void fill_one_bad(struct work *w)
+{
+    fill_one(w);
+    spoil_matrix(w, 0, 1);
+}
+
 typedef uint64_t call(struct work *w, size_t times);
 
 // What a call's work is made up of.
@@ -325,6 +343,7 @@ static const struct bench_case cases[] = {
     {"subtract-row", {1, 4, 16}, 1000, row_step, ours_subtract, c_subtract, WORD, 0, NULL, 0},
     {"table-step", {1, 4, 16}, 1000, row_step, ours_table_step, c_table_step, WORD, 0, NULL, 0},
     {"check", {64, 256, 1000, 1024}, 4, fill_one, ours_check, c_check, WORD, 1, spoil_matrix, 0},
+    {"check-refused", {64, 256, 1000, 1024}, 4, fill_one_bad, ours_refused_check, c_refused_check, WORD, 0, NULL, 0},
     {"sum", {64, 256, 1000, 1024}, 4, fill_two_to_one, ours_sum, c_sum, WORD, 2, spoil_matrix, 0},
     {"difference", {64, 256, 1024}, 4, fill_two_to_one, ours_difference, c_difference, WORD, 2, spoil_matrix, 0},
     {"negation", {64, 256, 1024}, 4, fill_one_to_one, ours_negation, c_negation, WORD, 1, spoil_matrix, 0},

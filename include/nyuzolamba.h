@@ -43,7 +43,7 @@ extern "C" {
 /* What comes back: word = number + 2^8 * buffer + 2^16 * row + 2^32 * column, where the number is one of these. NYUZOLAMBA_SIGN and
  * NYUZOLAMBA_PADDING come with a place, which makes the word another value than the number: compare NYUZOLAMBA_NUMBER(word) with them. With all other
  * numbers buffer, row and column are 0, and the word is the number itself; `word != NYUZOLAMBA_DONE` says that a call was refused. The numbers are
- * those of document 01: there is no 9, and 8 and 10 belong to requests that the C face does not have. */
+ * those of document 01; 8 and 10 belong to requests that the C face does not have. */
 enum {
     NYUZOLAMBA_DONE = 0,      /* done */
     NYUZOLAMBA_SIZE = 1,      /* a row or column count is above 1,024 */

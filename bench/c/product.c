@@ -93,8 +93,8 @@ static uint64_t judge(uint64_t m, uint64_t l, uint64_t n, uint64_t width, const 
         return WIDTH_WRONG;
     if (unfit(m, l, a_len) || unfit(l, n, b_len) || unfit((size_t)1 << width, n, table_len) || unfit(m, n, product_len))
         return LENGTH_WRONG;
-    uint64_t no = fault(m, l, a);
-    return no != DONE ? no : fault(l, n, b);
+    uint64_t no = fault(1, m, l, a);
+    return no != DONE ? no : fault(2, l, n, b);
 }
 
 uint64_t matrix_opening(uint64_t m, uint64_t l, uint64_t n, uint64_t width, const uint64_t *a, size_t a_len, const uint64_t *b, size_t b_len,
@@ -128,7 +128,7 @@ uint64_t matrix_turn(uint64_t m, uint64_t l, uint64_t n, uint64_t width, uint64_
 {
     if (width == 0 || judge(m, l, n, width, a, a_len, b, b_len, table_len, product_len) != DONE)
         return REFUSED;
-    if (fault((size_t)1 << width, n, table) != DONE || fault(m, n, product) != DONE)
+    if (fault(3, (size_t)1 << width, n, table) != DONE || fault(4, m, n, product) != DONE)
         return REFUSED;
     struct job job = {m, l, n, width, a, b, table, product};
     uint64_t total = 0, before = 0;

@@ -20,7 +20,7 @@ INLINE uint64_t judge_one(uint64_t rows, uint64_t columns, const uint64_t *a, si
         return TOO_LARGE;
     if (unfit(rows, columns, a_len) || unfit(r, c, out_len))
         return LENGTH_WRONG;
-    return fault(rows, columns, a);
+    return fault(1, rows, columns, a);
 }
 
 static uint64_t judge_two(uint64_t rows, uint64_t columns, const uint64_t *a, size_t a_len, const uint64_t *b, size_t b_len, size_t out_len)
@@ -29,8 +29,8 @@ static uint64_t judge_two(uint64_t rows, uint64_t columns, const uint64_t *a, si
         return TOO_LARGE;
     if (unfit(rows, columns, a_len) || unfit(rows, columns, b_len) || unfit(rows, columns, out_len))
         return LENGTH_WRONG;
-    uint64_t no = fault(rows, columns, a);
-    return no != DONE ? no : fault(rows, columns, b);
+    uint64_t no = fault(1, rows, columns, a);
+    return no != DONE ? no : fault(2, rows, columns, b);
 }
 
 uint64_t matrix_check(uint64_t rows, uint64_t columns, const uint64_t *a, size_t a_len)
@@ -86,7 +86,7 @@ uint64_t matrix_scaling(uint64_t rows, uint64_t columns, uint8_t d, const uint64
         return LENGTH_WRONG;
     if (d > 2)
         return DIGIT_WRONG;
-    uint64_t no = fault(rows, columns, a);
+    uint64_t no = fault(1, rows, columns, a);
     if (no == DONE)
         scale_rows(d, rows, columns, a, out);
     return no;
@@ -177,8 +177,12 @@ uint64_t matrix_pack(uint64_t rows, uint64_t columns, const uint8_t *cells, size
     uint8_t above = 0;
     for (size_t k = 0; k < cells_len; k++)
         above |= cells[k] > 2;
-    if (above)
-        return DIGIT_WRONG;
+    if (above) {
+        size_t k = 0;
+        while (cells[k] <= 2)
+            k++;
+        return placed(DIGIT_WRONG, 1, k / columns, k % columns);
+    }
     size_t q = planes(columns);
     for (size_t i = 0; i < rows; i++)
         for (size_t j = 0; j < q; j++) {
@@ -201,7 +205,7 @@ uint64_t matrix_unpack(uint64_t rows, uint64_t columns, const uint64_t *a, size_
         return TOO_LARGE;
     if (unfit(rows, columns, a_len) || out_len != rows * columns)
         return LENGTH_WRONG;
-    uint64_t no = fault(rows, columns, a);
+    uint64_t no = fault(1, rows, columns, a);
     if (no != DONE)
         return no;
     size_t q = planes(columns);

@@ -43,7 +43,7 @@ use Rattle.cface.specs.Product.{productFace}
 use Rattle.cface.specs.Open.{openSizes, openFaceTests, openFace}
 use Rattle.cface.specs.Turn.{turnSizes, turnFaceTests, turnFace}
 use Rattle.cface.specs.Stands.{Held}
-use Rattle.cface.specs.JobShows.{Opened, foundIn, Turned}
+use Rattle.cface.specs.JobShows.{OpenedJob, foundIn, TurnedJob}
 use Rattle.cface.proofs.LimitLaws.{above-rows, above-columns}
 use Rattle.cface.proofs.Refusals.{sum-exact, difference-exact, negation-exact, product-exact, open-exact, turn-exact}
 use Rattle.cface.proofs.Turns.{record-words}
@@ -75,7 +75,7 @@ negation-right s a out r o says z =
 -- ---- jobs
 
 -- the record, and zero in table and product
-pub open-right : (x y : Size) (w : ℕ) (job a b t p : List ℕ) (r : ℕ) (o : Held) → (r, o) ≡ openFace x y w job a b t p → r ≡ 0 → Opened x y w o
+pub open-right : (x y : Size) (w : ℕ) (job a b t p : List ℕ) (r : ℕ) (o : Held) → (r, o) ≡ openFace x y w job a b t p → r ≡ 0 → OpenedJob x y w o
 unfolding openFaceTests openSizes recordOf
 open-right x y w job a b t p r o says z =
     let E = open-exact x y w job a b t p r o says in
@@ -91,7 +91,7 @@ open-right x y w job a b t p r o says z =
     })
 
 -- the next steps of the list, on the contents as found
-pub turn-right : (job a b t p : List ℕ) (budget r : ℕ) (o : Held) → (r, o) ≡ turnFace job a b t p budget → r ≡ 0 → Turned job a b t p budget o
+pub turn-right : (job a b t p : List ℕ) (budget r : ℕ) (o : Held) → (r, o) ≡ turnFace job a b t p budget → r ≡ 0 → TurnedJob job a b t p budget o
 unfolding turnFaceTests turnSizes faults turnedOf turn found made total recordOf
 turn-right job a b t p budget r o says z =
     let E = turn-exact job a b t p budget r o says in

@@ -48,33 +48,33 @@ one = record { rows = 1; columns = 1 }
 abbrev none : Size
 none = record { rows = 0; columns = 0 }
 
--- a word below 256, and what comes after it
-abbrev word : ℕ → List ℕ → List ℕ
-word w rest = w ∷ 0 ∷ 0 ∷ 0 ∷ 0 ∷ 0 ∷ 0 ∷ 0 ∷ rest
+-- the eight bytes of a word below 256, and what comes after them
+abbrev eight : ℕ → List ℕ → List ℕ
+eight w rest = w ∷ 0 ∷ 0 ∷ 0 ∷ 0 ∷ 0 ∷ 0 ∷ 0 ∷ rest
 
 -- one cell that holds 0, 1, 2, and sign without unit
 abbrev zero1 : List ℕ
-zero1 = word 0 (word 0 [])
+zero1 = eight 0 (eight 0 [])
 
 abbrev one1 : List ℕ
-one1 = word 1 (word 0 [])
+one1 = eight 1 (eight 0 [])
 
 abbrev two1 : List ℕ
-two1 = word 1 (word 1 [])
+two1 = eight 1 (eight 1 [])
 
 abbrev stray1 : List ℕ
-stray1 = word 0 (word 1 [])
+stray1 = eight 0 (eight 1 [])
 
 -- a table of two rows of one cell, as opened and as made
 abbrev newTable : List ℕ
-newTable = word 0 (word 0 (word 0 (word 0 [])))
+newTable = eight 0 (eight 0 (eight 0 (eight 0 [])))
 
 abbrev madeTable : List ℕ
-madeTable = word 0 (word 0 (word 1 (word 0 [])))
+madeTable = eight 0 (eight 0 (eight 1 (eight 0 [])))
 
 -- the record of a job of m by m matrices, all of whose steps done were made in the last turn
 abbrev job : ℕ → ℕ → ℕ → ℕ → List ℕ
-job m width done ended = word m (word m (word m (word width (word done (word done (word ended []))))))
+job m width done ended = eight m (eight m (eight m (eight width (eight done (eight done (eight ended []))))))
 
 abbrev Left : Type 0
 Left = List ℕ × (List ℕ × List ℕ)

@@ -6,3 +6,4 @@ pub mod Refusals
 pub mod Turns
 pub mod Impostors
 pub mod Demand2
+pub mod Numbers

@@ -18,7 +18,7 @@ use Rattle.wordbytes.specs.ShowsBytes.{ShowsBytes}
 use Rattle.cface.specs.Stands.{Held}
 
 -- an opening of A, of size x, and B, of size y, at the width w
-pub record Opened (x y : Size) (w : ℕ) (o : Held) : Type 0 where
+pub record OpenedJob (x y : Size) (w : ℕ) (o : Held) : Type 0 where
   pub long : length (o .0) ≡ 56
   pub words : wordsIn (o .0) ≡ recordOf (newJob x y w) 0 false
   pub table : ShowsBytes (2 ^ meant w) (y .columns) (λ i j. 0) (o .1 .0)
@@ -29,7 +29,7 @@ abbrev pub foundIn : List ℕ → Job
 foundIn job = jobIn (wordsIn job)
 
 -- a turn of that job on the bytes a, b, t and p as found: the next steps of the list
-pub record Turned (job a b t p : List ℕ) (budget : ℕ) (o : Held) : Type 0 where
+pub record TurnedJob (job a b t p : List ℕ) (budget : ℕ) (o : Held) : Type 0 where
   pub long : length (o .0) ≡ 56
   pub words : wordsIn (o .0)
       ≡ recordOf (onJob (foundIn job) (leftOf (foundIn job) (wordsIn a) (wordsIn b) (wordsIn t) (wordsIn p) budget .done)) (madeOf (foundIn job) (wordsIn a) budget)

@@ -13,4 +13,5 @@ pub mod Demand2
 pub mod Impostors
 pub mod JobImpostors
 pub mod JobLaws
+pub mod Numbers
 pub mod Demand3

@@ -8,7 +8,7 @@ use lib.Bits.{bitOr}
 use Rattle.cells.specs.Any.{any}
 use Rattle.cells.specs.Pair.{digit}
 use Rattle.cells.specs.Fault.{strayIn, paddedIn}
-use Rattle.cells.proofs.AnyLaws.{any-next}
+use Rattle.cells.proofs.AnyLaws.{any-next, any-found}
 use Rattle.cells.proofs.LeastLaws.{least-is, least-none, least-some, least-all, least-first}
 use Rattle.buffers.specs.Buffer.{planes, wide, bitAt, unit, sign, cell}
 use Rattle.buffers.specs.Fault.{stray, padded, strayAt, paddedAt}
@@ -17,10 +17,14 @@ use Rattle.rows.specs.Row.{digitAt, column}
 use Rattle.rows.specs.Fault.{strayRow, paddedRow, strayColumn, paddedColumn, Found}
 use Rattle.rows.proofs.FaultLaws.{or-none, stray-fewer}
 
+-- before the first row there is nothing
+pub none-stray : (c : ℕ) (ws : List ℕ) → stray 0 c ws ≡ false
+unfolding stray any
+none-stray c ws = refl
+
 module _ (ws : List ℕ) (c q : ℕ) (e : q ≡ planes c) where
   pub stray-begin : stray 0 c ws ≡ false
-  unfolding stray any
-  stray-begin = refl
+  stray-begin = none-stray c ws
 
   pub stray-next : (i : ℕ) → stray i c ws ≡ false → strayRow ws (i * (2 * q)) q c ≡ false → stray (i + 1) c ws ≡ false
   unfolding stray strayRow unit sign wide
@@ -29,6 +33,10 @@ module _ (ws : List ℕ) (c q : ℕ) (e : q ≡ planes c) where
   pub stray-stop : (i r : ℕ) → i < r → stray i c ws ≡ false → strayRow ws (i * (2 * q)) q c ≡ true → i ≡ strayAt r c ws .0
   unfolding stray strayAt strayRow unit sign wide
   stray-stop i r l h k = sym (least-is _ r i l (rw e at k) h)
+
+  pub stray-yes : (i r : ℕ) → i < r → strayRow ws (i * (2 * q)) q c ≡ true → true ≡ stray r c ws
+  unfolding stray strayRow unit sign wide
+  stray-yes i r l k = sym (any-found _ i r l (rw e at k))
 
   -- the words in which the strays of the rows are gathered
   pub strays-next : (i w v : ℕ) → w < 2 ^ 64 → v < 2 ^ 64 → (w ≡ 0 → stray i c ws ≡ false) → Found v (strayRow ws (i * (2 * q)) q (64 * q))
@@ -48,6 +56,10 @@ module _ (ws : List ℕ) (c q : ℕ) (e : q ≡ planes c) where
   pub padded-stop : (i r : ℕ) → i < r → padded i c ws ≡ false → paddedRow ws (i * (2 * q)) q c ≡ true → i ≡ paddedAt r c ws .0
   unfolding padded paddedAt paddedRow column digitAt digit cell unit sign bitAt wide
   padded-stop i r l h k = sym (least-is _ r i l (rw e at k) h)
+
+  pub padded-yes : (i r : ℕ) → i < r → paddedRow ws (i * (2 * q)) q c ≡ true → true ≡ padded r c ws
+  unfolding padded paddedRow column digitAt digit cell unit sign bitAt wide
+  padded-yes i r l k = sym (any-found _ i r l (rw e at k))
 
   -- ---- the column, in the first row that has a fault
 

@@ -4,7 +4,7 @@ ghost use mathlib.Core.Bool.{false};
 ghost use Prim.Native.Nat.{_≤_, _<_};
 ghost use lib.ListN.{length};
 ghost use Rattle.buffers.specs.Buffer.{words};
-ghost use Rattle.buffers.specs.Fault.{stray, strayAt, paddedAt};
+ghost use Rattle.buffers.specs.Fault.{stray, padded, strayAt, paddedAt};
 ghost use Rattle.requests.specs.Answers.{word, first};
 ghost use Rattle.requests.specs.Sizes.{over, unfit};
 ghost use Rattle.requests.specs.Faults.{placeAt, faults, pairFaults};
@@ -16,30 +16,75 @@ use crate::Size;
 use crate::word;
 use buffers::planes::planes;
 
-// The sign bits without unit of all rows, padding included, laid over one another: no test in the loop, as a legal buffer is read to its end anyway.
-fn strays(r: usize, c: usize, a: &[u64]) -> u64
-    requires { ⌜ (r ≤ 1024) × (c ≤ 1024) × (length (now a) ≡ words r c) ⌝ }
-    ensures { λ w. ⌜ (w ≡ 0 → stray r c (now (a .entry)) ≡ false) ⌝ }
+// The sign bits without unit of rows i to below e, padding included, laid over one another: no test in the loop, so that a legal buffer is read fast.
+fn strays(r: usize, c: usize, a: &[u64], from: usize, e: usize) -> u64
+    requires { ⌜ (r ≤ 1024) × (c ≤ 1024) × (length (now a) ≡ words r c) × (from ≤ e) × (e ≤ r) ⌝ }
+    ensures { λ w. ⌜ (w ≡ 0 → stray from c (now (a .entry)) ≡ false → stray e c (now (a .entry)) ≡ false) ⌝ }
 {
     let q = planes(c);
     let w = 2 * q;
     let mut bad: u64 = 0;
-    let mut i = 0;
-    while i < r {
+    let mut i = from;
+    while i < e {
         bad = bad | rows::fault::strays(a, q, q, i * w);
         i += 1;
     }
     bad
 }
 
-// The first row with sign without unit in a real column, and r where there is none: row by row, and real columns alone.
-fn stray_by_row(r: usize, c: usize, a: &[u64]) -> usize
+// Row by row, and real columns alone.
+fn stray_by_row(r: usize, c: usize, a: &[u64]) -> bool
     requires { ⌜ (r ≤ 1024) × (c ≤ 1024) × (length (now a) ≡ words r c) ⌝ }
-    ensures { λ i. ⌜ i ≡ strayAt r c (now (a .entry)) .0 ⌝ }
+    ensures { λ b. ⌜ b ≡ stray r c (now (a .entry)) ⌝ }
 {
     let q = planes(c);
     let w = 2 * q;
     let mut i = 0;
+    while i < r {
+        if rows::fault::stray(a, q, c, i * w) {
+            return true;
+        }
+        i += 1;
+    }
+    false
+}
+
+// Where 256 rows from row i on end, or the rows of the buffer.
+fn group_end(r: usize, i: usize) -> usize
+    requires { ⌜ i < r ⌝ }
+    ensures { λ e. ⌜ (i < e) × (e ≤ r) ⌝ }
+{
+    if r - i < 256 {
+        return r;
+    }
+    i + 256
+}
+
+// As many rows that have no stray sign as are read fast: all of a legal buffer. It stops before 256 rows that have one, or a padding bit that looks like
+// one.
+fn clear_fast(r: usize, c: usize, a: &[u64]) -> usize
+    requires { ⌜ (r ≤ 1024) × (c ≤ 1024) × (length (now a) ≡ words r c) ⌝ }
+    ensures { λ k. ⌜ (k ≤ r) × (stray k c (now (a .entry)) ≡ false) ⌝ }
+{
+    let mut i = 0;
+    while i < r {
+        let e = group_end(r, i);
+        if strays(r, c, a, i, e) != 0 {
+            return i;
+        }
+        i = e;
+    }
+    r
+}
+
+// The first row with a stray sign, from a row on before which there is none, and r where there is none at all.
+fn stray_row(r: usize, c: usize, a: &[u64], from: usize) -> usize
+    requires { ⌜ (r ≤ 1024) × (c ≤ 1024) × (length (now a) ≡ words r c) × (from ≤ r) × (stray from c (now a) ≡ false) ⌝ }
+    ensures { λ i. ⌜ i ≡ strayAt r c (now (a .entry)) .0 ⌝ }
+{
+    let q = planes(c);
+    let w = 2 * q;
+    let mut i = from;
     while i < r {
         if rows::fault::stray(a, q, c, i * w) {
             return i;
@@ -49,21 +94,24 @@ fn stray_by_row(r: usize, c: usize, a: &[u64]) -> usize
     r
 }
 
-// The same. What strays finds may be padding, so that only its 0 is an answer; with one word a plane the rows one by one cost less.
-fn stray_row(r: usize, c: usize, a: &[u64]) -> usize
+// A padding bit is set.
+fn padded(r: usize, c: usize, a: &[u64]) -> bool
     requires { ⌜ (r ≤ 1024) × (c ≤ 1024) × (length (now a) ≡ words r c) ⌝ }
-    ensures { λ i. ⌜ i ≡ strayAt r c (now (a .entry)) .0 ⌝ }
+    ensures { λ b. ⌜ b ≡ padded r c (now (a .entry)) ⌝ }
 {
-    if planes(c) < 2 {
-        return stray_by_row(r, c, a);
+    let q = planes(c);
+    let w = 2 * q;
+    let mut i = 0;
+    while i < r {
+        if rows::fault::padded(a, q, c, i * w) {
+            return true;
+        }
+        i += 1;
     }
-    if strays(r, c, a) == 0 {
-        return r;
-    }
-    stray_by_row(r, c, a)
+    false
 }
 
-// The first row in which a padding bit is set, and r where there is none.
+// The first row with a padding bit, and r where there is none.
 fn padded_row(r: usize, c: usize, a: &[u64]) -> usize
     requires { ⌜ (r ≤ 1024) × (c ≤ 1024) × (length (now a) ≡ words r c) ⌝ }
     ensures { λ i. ⌜ i ≡ paddedAt r c (now (a .entry)) .0 ⌝ }
@@ -80,7 +128,7 @@ fn padded_row(r: usize, c: usize, a: &[u64]) -> usize
     r
 }
 
-// The place of the first stray sign, which is in row i. Only a refusal comes here.
+// The place of the first stray sign, which is in row i.
 fn stray_at(n: Buffer, r: usize, c: usize, a: &[u64], i: usize) -> Place
     requires { ⌜ (r ≤ 1024) × (c ≤ 1024) × (length (now a) ≡ words r c) × (i ≡ strayAt r c (now a) .0) × (i < r) ⌝ }
     ensures { λ p. ⌜ p ≡ placeAt n (strayAt r c (now (a .entry))) ⌝ }
@@ -108,14 +156,41 @@ fn padded_at(n: Buffer, r: usize, c: usize, a: &[u64], i: usize) -> Place
     }
 }
 
-// What is wrong with the cells of buffer n.
-pub fn fault(n: Buffer, s: Size, a: &[u64]) -> Answer
-    requires { ⌜ (over s ≡ false) × (unfit s (length (now a)) ≡ false) ⌝ }
-    ensures { λ r. ⌜ word r ≡ first (faults n s (now (a .entry))) ⌝ }
+// The same. With one word a plane the rows one by one cost less.
+fn clear(r: usize, c: usize, a: &[u64]) -> usize
+    requires { ⌜ (r ≤ 1024) × (c ≤ 1024) × (length (now a) ≡ words r c) ⌝ }
+    ensures { λ k. ⌜ (k ≤ r) × (stray k c (now (a .entry)) ≡ false) ⌝ }
 {
-    let r = s.rows as usize;
-    let c = s.columns as usize;
-    let i = stray_row(r, c, a);
+    if planes(c) < 2 {
+        if stray_by_row(r, c, a) {
+            return 0;
+        }
+        return r;
+    }
+    clear_fast(r, c, a)
+}
+
+// A row before which no sign is stray, and from which on something is wrong, if only in the padding; r + 1 where nothing is.
+fn suspect(r: usize, c: usize, a: &[u64]) -> usize
+    requires { ⌜ (r ≤ 1024) × (c ≤ 1024) × (length (now a) ≡ words r c) ⌝ }
+    ensures { λ k. ⌜ (k ≤ r → stray k c (now (a .entry)) ≡ false) × (r < k → (stray r c (now (a .entry)) ≡ false) × (padded r c (now (a .entry)) ≡ false)) ⌝ }
+{
+    let k = clear(r, c, a);
+    if k < r {
+        return k;
+    }
+    if padded(r, c, a) {
+        return r;
+    }
+    r + 1
+}
+
+// What is wrong with the cells of buffer n, by a row before which no sign is stray. It is slow, and a legal buffer does not come here.
+fn found(n: Buffer, r: usize, c: usize, a: &[u64], from: usize) -> Answer
+    requires { ⌜ (r ≤ 1024) × (c ≤ 1024) × (length (now a) ≡ words r c) × (from ≤ r) × (stray from c (now a) ≡ false) ⌝ }
+    ensures { λ f. ⌜ word f ≡ first (faults n (record { rows = r; columns = c }) (now (a .entry))) ⌝ }
+{
+    let i = stray_row(r, c, a, from);
     if i < r {
         return Answer::Refused(Reason::StraySign(stray_at(n, r, c, a, i)));
     }
@@ -124,6 +199,20 @@ pub fn fault(n: Buffer, s: Size, a: &[u64]) -> Answer
         return Answer::Refused(Reason::PaddingSet(padded_at(n, r, c, a, k)));
     }
     Answer::Done
+}
+
+// What is wrong with the cells of buffer n.
+pub fn fault(n: Buffer, s: Size, a: &[u64]) -> Answer
+    requires { ⌜ (over s ≡ false) × (unfit s (length (now a)) ≡ false) ⌝ }
+    ensures { λ r. ⌜ word r ≡ first (faults n s (now (a .entry))) ⌝ }
+{
+    let r = s.rows as usize;
+    let c = s.columns as usize;
+    let k = suspect(r, c, a);
+    if k > r {
+        return Answer::Done;
+    }
+    found(n, r, c, a, k)
 }
 
 // The faults of two buffers, the first one's first.

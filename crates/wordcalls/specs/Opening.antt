@@ -10,7 +10,7 @@ use Rattle.matrix.specs.Opening.{newJob}
 use Rattle.matrix.specs.Record.{recordOf}
 
 -- the record's words, and then those of table and product
-pub record Opened (x y : Size) (width : ℕ) (o : List ℕ × (List ℕ × List ℕ)) : Type 0 where
+pub record OpenedJob (x y : Size) (width : ℕ) (o : List ℕ × (List ℕ × List ℕ)) : Type 0 where
   pub record-is : o .0 ≡ recordOf (newJob x y width) 0 false
   pub table : Shows (2 ^ meant width) (y .columns) (λ i j. 0) (o .1 .0)
   pub product : Shows (x .rows) (y .columns) (λ i j. 0) (o .1 .1)

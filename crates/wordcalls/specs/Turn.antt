@@ -11,7 +11,7 @@ use Rattle.matrix.specs.Record.{recordOf}
 use Rattle.matrix.specs.Turn.{sizeA, madeOf, leftOf, onJob}
 
 -- the record's words, and then those of table and product
-pub record Turned (job : Job) (a b t p : List ℕ) (budget : ℕ) (o : List ℕ × (List ℕ × List ℕ)) : Type 0 where
+pub record TurnedJob (job : Job) (a b t p : List ℕ) (budget : ℕ) (o : List ℕ × (List ℕ × List ℕ)) : Type 0 where
   pub record-is : o .0 ≡ recordOf (onJob job (job .done + madeOf job a budget)) (madeOf job a budget) (eqb (job .done + madeOf job a budget) (totalOf (sizeA job) (job .width) a))
   pub table : Shows (2 ^ job .width) (job .n) (leftOf job a b t p budget .state .table) (o .1 .0)
   pub product : Shows (job .m) (job .n) (leftOf job a b t p budget .state .product) (o .1 .1)

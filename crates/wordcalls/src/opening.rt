@@ -3,7 +3,8 @@
 ghost use lib.ListN.{length};
 ghost use Rattle.requests.specs.Exact.{Seen};
 ghost use Rattle.matrix.specs.Opening.{openingTests};
-ghost use Rattle.wordcalls.specs.Opening.{Opened};
+ghost use Rattle.wordcalls.specs.Opening.{OpenedJob};
+use matrix::opening::Opened;
 use requests::Size;
 use requests::reason_word;
 
@@ -20,7 +21,7 @@ pub extern "C" fn call_opening(
     product: &mut [u64],
     job: &mut [u64; 7],
 ) -> u64
-    ensures { λ r. ⌜ Seen (openingTests (record { rows = «a_rows»; columns = «a_columns» }) (record { rows = «b_rows»; columns = «b_columns» }) width (now (a .entry)) (now (b .entry)) (length (now (table .entry))) (length (now (product .entry)))) (now (job .entry), (now (table .entry), now (product .entry))) (Opened (record { rows = «a_rows»; columns = «a_columns» }) (record { rows = «b_rows»; columns = «b_columns» }) width) r (now (job .exit), (now (table .exit), now (product .exit))) ⌝ }
+    ensures { λ r. ⌜ Seen (openingTests (record { rows = «a_rows»; columns = «a_columns» }) (record { rows = «b_rows»; columns = «b_columns» }) width (now (a .entry)) (now (b .entry)) (length (now (table .entry))) (length (now (product .entry)))) (now (job .entry), (now (table .entry), now (product .entry))) (OpenedJob (record { rows = «a_rows»; columns = «a_columns» }) (record { rows = «b_rows»; columns = «b_columns» }) width) r (now (job .exit), (now (table .exit), now (product .exit))) ⌝ }
 {
     let x = Size {
         rows: a_rows,
@@ -32,10 +33,10 @@ pub extern "C" fn call_opening(
     };
     let opened = matrix::opening::opening(x, y, width, a, b, table, product);
     match opened {
-        matrix::opening::Opened::Done(new) => {
+        Opened::Done(new) => {
             *job = [new.m, new.l, new.n, new.width, new.done, 0, 0];
             0
         }
-        matrix::opening::Opened::Refused(why) => reason_word(why),
+        Opened::Refused(why) => reason_word(why),
     }
 }

@@ -3,8 +3,9 @@
 ghost use Rattle.requests.specs.Exact.{Seen};
 ghost use Rattle.matrix.specs.Turn.{turnTests};
 ghost use Rattle.matrix.specs.Record.{jobIn};
-ghost use Rattle.wordcalls.specs.Turn.{Turned};
+ghost use Rattle.wordcalls.specs.Turn.{TurnedJob};
 use matrix::job::Job;
+use matrix::turn::Turned;
 use requests::reason_word;
 
 #[no_mangle]
@@ -16,7 +17,7 @@ pub extern "C" fn call_turn(
     product: &mut [u64],
     budget: u32,
 ) -> u64
-    ensures { λ r. ⌜ Seen (turnTests (jobIn (now (job .entry))) (now (a .entry)) (now (b .entry)) (now (table .entry)) (now (product .entry))) (now (job .entry), (now (table .entry), now (product .entry))) (Turned (jobIn (now (job .entry))) (now (a .entry)) (now (b .entry)) (now (table .entry)) (now (product .entry)) budget) r (now (job .exit), (now (table .exit), now (product .exit))) ⌝ }
+    ensures { λ r. ⌜ Seen (turnTests (jobIn (now (job .entry))) (now (a .entry)) (now (b .entry)) (now (table .entry)) (now (product .entry))) (now (job .entry), (now (table .entry), now (product .entry))) (TurnedJob (jobIn (now (job .entry))) (now (a .entry)) (now (b .entry)) (now (table .entry)) (now (product .entry)) budget) r (now (job .exit), (now (table .exit), now (product .exit))) ⌝ }
 {
     let found = Job {
         m: job[0],
@@ -27,7 +28,7 @@ pub extern "C" fn call_turn(
     };
     let turned = matrix::turn::turn(found, a, b, table, product, budget);
     match turned {
-        matrix::turn::Turned::Done {
+        Turned::Done {
             job: next,
             made,
             finished,
@@ -36,6 +37,6 @@ pub extern "C" fn call_turn(
             *job = [next.m, next.l, next.n, next.width, next.done, made, ended];
             0
         }
-        matrix::turn::Turned::Refused(why) => reason_word(why),
+        Turned::Refused(why) => reason_word(why),
     }
 }

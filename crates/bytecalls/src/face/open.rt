@@ -3,7 +3,7 @@ ghost use lib.ListN.{length};
 ghost use Rattle.requests.specs.Exact.{Seen};
 ghost use Rattle.cface.specs.Open.{openFaceTests};
 ghost use Rattle.cface.specs.Stands.{Held};
-ghost use Rattle.cface.specs.JobShows.{Opened};
+ghost use Rattle.cface.specs.JobShows.{OpenedJob};
 use cface::open::nyuzolamba_open;
 
 pub fn seen_open(
@@ -18,7 +18,7 @@ pub fn seen_open(
     table: &mut [u8],
     product: &mut [u8],
 ) -> u64
-    ensures { λ r. ⌜ Seen {S = Held} (openFaceTests (record { rows = «a_rows»; columns = «a_columns» }) (record { rows = «b_rows»; columns = «b_columns» }) width (length (now (job .entry))) (now (a .entry)) (now (b .entry)) (length (now (table .entry))) (length (now (product .entry)))) (now (job .entry), (now (table .entry), now (product .entry))) (Opened (record { rows = «a_rows»; columns = «a_columns» }) (record { rows = «b_rows»; columns = «b_columns» }) width) r (now (job .exit), (now (table .exit), now (product .exit))) ⌝ }
+    ensures { λ r. ⌜ Seen {S = Held} (openFaceTests (record { rows = «a_rows»; columns = «a_columns» }) (record { rows = «b_rows»; columns = «b_columns» }) width (length (now (job .entry))) (now (a .entry)) (now (b .entry)) (length (now (table .entry))) (length (now (product .entry)))) (now (job .entry), (now (table .entry), now (product .entry))) (OpenedJob (record { rows = «a_rows»; columns = «a_columns» }) (record { rows = «b_rows»; columns = «b_columns» }) width) r (now (job .exit), (now (table .exit), now (product .exit))) ⌝ }
 {
     nyuzolamba_open(
         a_rows,

@@ -1,52 +1,27 @@
-use mathlib.Core.Path.{ap}
-use Rattle.requests.specs.Answers.{placed, first}
+use native.Mathlib.Omega.{arith}
+use Rattle.requests.specs.Answers.{first}
 use Rattle.requests.specs.Faults.{faults}
-use Rattle.requests.proofs.FaultLaws.{stray-some, stray-all, padded-some, padded-all}
 use Rattle.requests.proofs.SizeLaws.{over-rows, over-columns, unfit-long}
+use borrow.Author.Needs.{needs}
 use Rattle.requests.proofs.faults.fault.Statement.{statement}
 use Rattle.requests.proofs.faults.fault.Tie as tie
 
-stray-row-requires : tie.Need-stray-row-requires
-stray-row-requires c κs = (over-rows _ (c .before .pre .0), over-columns _ (c .before .pre .0), unfit-long _ _ (c .before .pre .1))
-
-stray-at-requires : tie.Need-stray-at-requires
-stray-at-requires c κs =
-    let pre = c .before .before .before .pre in
-    (over-rows _ (pre .0), over-columns _ (pre .0), unfit-long _ _ (pre .1), c .before .stray-row .ensures, c .if1 .taken)
+suspect-requires : tie.Need-suspect-requires
+suspect-requires c κs = (over-rows _ (c .before .pre .0), over-columns _ (c .before .pre .0), unfit-long _ _ (c .before .pre .1))
 
 returns : tie.Need-returns
 unfolding faults first
-returns c = rw (stray-some _ _ _ _ (c .before .before .stray-row .ensures) (c .before .if1 .taken)) (ap (placed 5) (c .stray-at .ensures))
+returns c =
+    let legal = c .before .suspect .ensures .1 (c .if1 .taken) in
+    rw (legal .0, legal .1)
 
-padded-row-requires : tie.Need-padded-row-requires
-padded-row-requires c κs =
+found-requires : tie.Need-found-requires
+found-requires c κs =
     let pre = c .before .before .before .pre in
-    (over-rows _ (pre .0), over-columns _ (pre .0), unfit-long _ _ (pre .1))
-
-padded-at-requires : tie.Need-padded-at-requires
-padded-at-requires c κs =
-    let pre = c .before .before .before .before .before .pre in
-    (over-rows _ (pre .0), over-columns _ (pre .0), unfit-long _ _ (pre .1), c .before .padded-row .ensures, c .if2 .taken)
+    (over-rows _ (pre .0), over-columns _ (pre .0), unfit-long _ _ (pre .1), c .if1 .left, c .before .suspect .ensures .0 (c .if1 .left))
 
 returns-2 : tie.Need-returns-2
-unfolding faults first
-returns-2 c =
-    rw (stray-all _ _ _ _ (c .before .before .before .before .stray-row .ensures) (c .before .before .before .if1 .left), padded-some _ _ _ _ (c .before .before .padded-row .ensures) (c .before .if2 .taken))
-    (ap (placed 6) (c .padded-at .ensures))
-
-returns-3 : tie.Need-returns-3
-unfolding faults first
-returns-3 c =
-    rw (stray-all _ _ _ _ (c .before .before .before .stray-row .ensures) (c .before .before .if1 .left), padded-all _ _ _ _ (c .before .padded-row .ensures) (c .if2 .left))
+returns-2 c = search needs
 
 pub fault-spec : {M : Type 1} → statement M
-fault-spec =
-    tie.close
-    (tie.spec
-    stray-row-requires
-    stray-at-requires
-    returns
-    padded-row-requires
-    padded-at-requires
-    returns-2
-    returns-3)
+fault-spec = tie.close (tie.spec suspect-requires returns found-requires returns-2)

@@ -3,7 +3,7 @@ use mathlib.Core.Bool.{false}
 use Prim.Native.Nat.{_-_, _≤_}
 use Rattle.buffers.specs.Fault.{stray}
 use Rattle.buffers.proofs.SizeLaws.{planes-le, words-le, row-fits}
-use Rattle.requests.proofs.FaultLaws.{stray-begin, stray-next, stray-stop, stray-none}
+use Rattle.requests.proofs.FaultLaws.{stray-begin, stray-next, stray-yes}
 use native.Mathlib.Omega.{arith}
 use Rattle.requests.proofs.faults.stray_by_row.Statement.{statement}
 use Rattle.requests.proofs.faults.stray_by_row.Tie as tie
@@ -30,7 +30,7 @@ stray-requires : tie.Need-stray-requires Inv-loop μ-loop
 stray-requires c κs = (c .before .before .planes .ensures, c .before .before .before .before .pre .1, row-fits _ _ (c .before .loop .i) _ _ (c .before .before .planes .ensures) (c .before .before .before .before .pre .2) (omega arith))
 
 returns : tie.Need-returns Inv-loop μ-loop
-returns c = stray-stop _ _ _ (c .before .before .before .before .planes .ensures) (c .before .before .before .loop .i) _ (omega arith) (c .before .before .before .loop .inv .1) (sym (c .before .stray .ensures) ∙ c .if1 .taken)
+returns c = stray-yes _ _ _ (c .before .before .before .before .planes .ensures) (c .before .before .before .loop .i) _ (omega arith) (sym (c .before .stray .ensures) ∙ c .if1 .taken)
 
 add-i : tie.Need-add-i Inv-loop μ-loop
 add-i c = omega arith
@@ -44,7 +44,7 @@ loop-again c = (omega arith, stray-next _ _ _ (c .before .before .before .before
 returns-2 : tie.Need-returns-2 Inv-loop μ-loop
 returns-2 c =
     let e : c .before .loop .i ≡ c .before .before .before .before .args .r = omega arith in
-    stray-none _ _ _ (rw e at (c .before .loop .inv .1))
+    sym (rw e at (c .before .loop .inv .1))
 
 pub stray-by-row-spec : {M : Type 1} → statement M
 stray-by-row-spec =

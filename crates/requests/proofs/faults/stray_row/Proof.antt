@@ -1,37 +1,64 @@
-use Rattle.requests.proofs.FaultLaws.{stray-none}
+use mathlib.Core.Path.{_≡_, sym, _∙_}
+use mathlib.Core.Bool.{false}
+use Prim.Native.Nat.{_-_, _≤_}
+use Rattle.buffers.specs.Fault.{stray}
+use Rattle.buffers.proofs.SizeLaws.{planes-le, words-le, row-fits}
+use Rattle.requests.proofs.FaultLaws.{stray-next, stray-stop, stray-none}
 use native.Mathlib.Omega.{arith}
 use Rattle.requests.proofs.faults.stray_row.Statement.{statement}
 use Rattle.requests.proofs.faults.stray_row.Tie as tie
 
-planes-requires : tie.Need-planes-requires
+abbrev Inv-loop : tie.InvT-loop
+Inv-loop r c a from q w i₀ i = (i ≤ r) × (stray i c a ≡ false)
+
+abbrev μ-loop : tie.MeasureT-loop
+μ-loop r c a from q w i₀ i = r - i
+
+planes-requires : tie.Need-planes-requires Inv-loop μ-loop
 planes-requires c κs = omega arith
 
-stray-by-row-requires : tie.Need-stray-by-row-requires
-stray-by-row-requires c κs = c .before .before .before .pre
+mul-w : tie.Need-mul-w Inv-loop μ-loop
+mul-w c = omega (arith, planes-le _ (c .before .before .pre .1))
 
-returns : tie.Need-returns
-returns c = c .stray-by-row .ensures
+loop-holds : tie.Need-loop-holds Inv-loop μ-loop
+loop-holds c = (c .before .before .pre .3, c .before .before .pre .4)
 
-strays-requires : tie.Need-strays-requires
-strays-requires c κs = c .before .before .before .pre
+mul-stray : tie.Need-mul-stray Inv-loop μ-loop
+mul-stray c = omega (arith, row-fits _ _ (c .before .loop .i) _ _ (c .before .before .planes .ensures) (c .before .before .before .before .pre .2) (omega arith), words-le _ _ (c .before .before .before .before .pre .0) (c .before .before .before .before .pre .1))
 
-returns-2 : tie.Need-returns-2
-returns-2 c = stray-none _ _ _ (c .before .strays .ensures (c .if2 .taken))
+stray-requires : tie.Need-stray-requires Inv-loop μ-loop
+stray-requires c κs = (c .before .before .planes .ensures, c .before .before .before .before .pre .1, row-fits _ _ (c .before .loop .i) _ _ (c .before .before .planes .ensures) (c .before .before .before .before .pre .2) (omega arith))
 
-stray-by-row-requires-2 : tie.Need-stray-by-row-requires-2
-stray-by-row-requires-2 c κs = c .before .before .before .before .before .pre
+returns : tie.Need-returns Inv-loop μ-loop
+returns c = stray-stop _ _ _ (c .before .before .before .before .planes .ensures) (c .before .before .before .loop .i) _ (omega arith) (c .before .before .before .loop .inv .1) (sym (c .before .stray .ensures) ∙ c .if1 .taken)
 
-returns-3 : tie.Need-returns-3
-returns-3 c = c .stray-by-row2 .ensures
+add-i : tie.Need-add-i Inv-loop μ-loop
+add-i c = omega arith
+
+loop-less : tie.Need-loop-less Inv-loop μ-loop
+loop-less c = omega arith
+
+loop-again : tie.Need-loop-again Inv-loop μ-loop
+loop-again c = (omega arith, stray-next _ _ _ (c .before .before .before .before .planes .ensures) (c .before .before .before .loop .i) (c .before .before .before .loop .inv .1) (sym (c .before .stray .ensures) ∙ c .if1 .left))
+
+returns-2 : tie.Need-returns-2 Inv-loop μ-loop
+returns-2 c =
+    let e : c .before .loop .i ≡ c .before .before .before .before .args .r = omega arith in
+    stray-none _ _ _ (rw e at (c .before .loop .inv .1))
 
 pub stray-row-spec : {M : Type 1} → statement M
 stray-row-spec =
     tie.close
     (tie.spec
+    Inv-loop
+    μ-loop
     planes-requires
-    stray-by-row-requires
+    mul-w
+    loop-holds
+    mul-stray
+    stray-requires
     returns
-    strays-requires
-    returns-2
-    stray-by-row-requires-2
-    returns-3)
+    add-i
+    loop-less
+    loop-again
+    returns-2)
