@@ -1,6 +1,5 @@
 // A turn: the next steps of a job's list, as many as the budget allows or until the list ends.
 ghost use mathlib.Core.Path.{_≡_};
-ghost use mathlib.Core.Bool.{false};
 ghost use Prim.Native.Nat.{_≤_};
 ghost use Rattle.buffers.specs.Buffer.{cell};
 ghost use Rattle.requests.specs.Answers.{word, first};

@@ -1,22 +1,22 @@
-// The two faults of a buffer of the right length, row by row: any stray sign comes before any padding bit.
+// The two faults of a buffer of the right length: any stray sign comes before any padding bit. A legal buffer is read fast, and only where something is
+// wrong is its place looked for.
 ghost use mathlib.Core.Path.{_≡_};
 ghost use mathlib.Core.Bool.{false};
 ghost use Prim.Native.Nat.{_≤_, _<_};
 ghost use lib.ListN.{length};
 ghost use Rattle.buffers.specs.Buffer.{words};
-ghost use Rattle.buffers.specs.Fault.{stray, padded, strayAt, paddedAt};
+ghost use Rattle.buffers.specs.Fault.{stray, padded};
 ghost use Rattle.requests.specs.Answers.{word, first};
 ghost use Rattle.requests.specs.Sizes.{over, unfit};
-ghost use Rattle.requests.specs.Faults.{placeAt, faults, pairFaults};
+ghost use Rattle.requests.specs.Faults.{faults, pairFaults};
+use super::places::found;
 use crate::Answer;
 use crate::Buffer;
-use crate::Place;
-use crate::Reason;
 use crate::Size;
 use crate::word;
 use buffers::planes::planes;
 
-// The sign bits without unit of rows i to below e, padding included, laid over one another: no test in the loop, so that a legal buffer is read fast.
+// The sign bits without unit of rows `from` to below e, padding included, laid over one another: no test in the loop, so that a legal buffer is read fast.
 fn strays(r: usize, c: usize, a: &[u64], from: usize, e: usize) -> u64
     requires { ⌜ (r ≤ 1024) × (c ≤ 1024) × (length (now a) ≡ words r c) × (from ≤ e) × (e ≤ r) ⌝ }
     ensures { λ w. ⌜ (w ≡ 0 → stray from c (now (a .entry)) ≡ false → stray e c (now (a .entry)) ≡ false) ⌝ }
@@ -77,21 +77,18 @@ fn clear_fast(r: usize, c: usize, a: &[u64]) -> usize
     r
 }
 
-// The first row with a stray sign, from a row on before which there is none, and r where there is none at all.
-fn stray_row(r: usize, c: usize, a: &[u64], from: usize) -> usize
-    requires { ⌜ (r ≤ 1024) × (c ≤ 1024) × (length (now a) ≡ words r c) × (from ≤ r) × (stray from c (now a) ≡ false) ⌝ }
-    ensures { λ i. ⌜ i ≡ strayAt r c (now (a .entry)) .0 ⌝ }
+// The same. With one word a plane the rows one by one cost less.
+fn clear(r: usize, c: usize, a: &[u64]) -> usize
+    requires { ⌜ (r ≤ 1024) × (c ≤ 1024) × (length (now a) ≡ words r c) ⌝ }
+    ensures { λ k. ⌜ (k ≤ r) × (stray k c (now (a .entry)) ≡ false) ⌝ }
 {
-    let q = planes(c);
-    let w = 2 * q;
-    let mut i = from;
-    while i < r {
-        if rows::fault::stray(a, q, c, i * w) {
-            return i;
+    if planes(c) < 2 {
+        if stray_by_row(r, c, a) {
+            return 0;
         }
-        i += 1;
+        return r;
     }
-    r
+    clear_fast(r, c, a)
 }
 
 // A padding bit is set.
@@ -111,65 +108,6 @@ fn padded(r: usize, c: usize, a: &[u64]) -> bool
     false
 }
 
-// The first row with a padding bit, and r where there is none.
-fn padded_row(r: usize, c: usize, a: &[u64]) -> usize
-    requires { ⌜ (r ≤ 1024) × (c ≤ 1024) × (length (now a) ≡ words r c) ⌝ }
-    ensures { λ i. ⌜ i ≡ paddedAt r c (now (a .entry)) .0 ⌝ }
-{
-    let q = planes(c);
-    let w = 2 * q;
-    let mut i = 0;
-    while i < r {
-        if rows::fault::padded(a, q, c, i * w) {
-            return i;
-        }
-        i += 1;
-    }
-    r
-}
-
-// The place of the first stray sign, which is in row i.
-fn stray_at(n: Buffer, r: usize, c: usize, a: &[u64], i: usize) -> Place
-    requires { ⌜ (r ≤ 1024) × (c ≤ 1024) × (length (now a) ≡ words r c) × (i ≡ strayAt r c (now a) .0) × (i < r) ⌝ }
-    ensures { λ p. ⌜ p ≡ placeAt n (strayAt r c (now (a .entry))) ⌝ }
-{
-    let q = planes(c);
-    let j = rows::fault::stray_column(a, q, c, i * (2 * q));
-    Place {
-        buffer: n,
-        row: i as u16,
-        column: j as u32,
-    }
-}
-
-// The place of the first padding bit, which is in row i.
-fn padded_at(n: Buffer, r: usize, c: usize, a: &[u64], i: usize) -> Place
-    requires { ⌜ (r ≤ 1024) × (c ≤ 1024) × (length (now a) ≡ words r c) × (i ≡ paddedAt r c (now a) .0) × (i < r) ⌝ }
-    ensures { λ p. ⌜ p ≡ placeAt n (paddedAt r c (now (a .entry))) ⌝ }
-{
-    let q = planes(c);
-    let j = rows::fault::padded_column(a, q, c, i * (2 * q));
-    Place {
-        buffer: n,
-        row: i as u16,
-        column: j as u32,
-    }
-}
-
-// The same. With one word a plane the rows one by one cost less.
-fn clear(r: usize, c: usize, a: &[u64]) -> usize
-    requires { ⌜ (r ≤ 1024) × (c ≤ 1024) × (length (now a) ≡ words r c) ⌝ }
-    ensures { λ k. ⌜ (k ≤ r) × (stray k c (now (a .entry)) ≡ false) ⌝ }
-{
-    if planes(c) < 2 {
-        if stray_by_row(r, c, a) {
-            return 0;
-        }
-        return r;
-    }
-    clear_fast(r, c, a)
-}
-
 // A row before which no sign is stray, and from which on something is wrong, if only in the padding; r + 1 where nothing is.
 fn suspect(r: usize, c: usize, a: &[u64]) -> usize
     requires { ⌜ (r ≤ 1024) × (c ≤ 1024) × (length (now a) ≡ words r c) ⌝ }
@@ -183,22 +121,6 @@ fn suspect(r: usize, c: usize, a: &[u64]) -> usize
         return r;
     }
     r + 1
-}
-
-// What is wrong with the cells of buffer n, by a row before which no sign is stray. It is slow, and a legal buffer does not come here.
-fn found(n: Buffer, r: usize, c: usize, a: &[u64], from: usize) -> Answer
-    requires { ⌜ (r ≤ 1024) × (c ≤ 1024) × (length (now a) ≡ words r c) × (from ≤ r) × (stray from c (now a) ≡ false) ⌝ }
-    ensures { λ f. ⌜ word f ≡ first (faults n (record { rows = r; columns = c }) (now (a .entry))) ⌝ }
-{
-    let i = stray_row(r, c, a, from);
-    if i < r {
-        return Answer::Refused(Reason::StraySign(stray_at(n, r, c, a, i)));
-    }
-    let k = padded_row(r, c, a);
-    if k < r {
-        return Answer::Refused(Reason::PaddingSet(padded_at(n, r, c, a, k)));
-    }
-    Answer::Done
 }
 
 // What is wrong with the cells of buffer n.

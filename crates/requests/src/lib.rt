@@ -4,6 +4,7 @@ ghost use Rattle.requests.specs.Answers.{bufferNumber, placed, reasonWor
 
 pub mod faults;
 pub mod pair;
+mod places;
 pub mod single;
 pub mod sizes;
 

@@ -1,4 +1,3 @@
-use native.Mathlib.Omega.{arith}
 use Rattle.requests.specs.Answers.{first}
 use Rattle.requests.specs.Faults.{faults}
 use Rattle.requests.proofs.SizeLaws.{over-rows, over-columns, unfit-long}

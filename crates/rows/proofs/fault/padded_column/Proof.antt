@@ -1,4 +1,4 @@
-use mathlib.Core.Path.{sym, _∙_}
+use mathlib.Core.Path.{_∙_}
 use Rattle.cells.proofs.LeastLaws.{least-first}
 use Rattle.buffers.proofs.SizeLaws.{planes-le}
 use Rattle.rows.proofs.FaultLaws.{padded-last, padded-partly, padded-some-word, padded-first}

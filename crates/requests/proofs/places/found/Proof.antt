@@ -2,8 +2,8 @@ use mathlib.Core.Path.{ap}
 use Rattle.requests.specs.Answers.{placed, first}
 use Rattle.requests.specs.Faults.{faults}
 use Rattle.requests.proofs.FaultLaws.{stray-some, stray-all, padded-some, padded-all}
-use Rattle.requests.proofs.faults.found.Statement.{statement}
-use Rattle.requests.proofs.faults.found.Tie as tie
+use Rattle.requests.proofs.places.found.Statement.{statement}
+use Rattle.requests.proofs.places.found.Tie as tie
 
 stray-row-requires : tie.Need-stray-row-requires
 stray-row-requires c κs = c .before .pre

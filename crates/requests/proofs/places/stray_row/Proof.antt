@@ -5,8 +5,8 @@ use Rattle.buffers.specs.Fault.{stray}
 use Rattle.buffers.proofs.SizeLaws.{planes-le, words-le, row-fits}
 use Rattle.requests.proofs.FaultLaws.{stray-next, stray-stop, stray-none}
 use native.Mathlib.Omega.{arith}
-use Rattle.requests.proofs.faults.stray_row.Statement.{statement}
-use Rattle.requests.proofs.faults.stray_row.Tie as tie
+use Rattle.requests.proofs.places.stray_row.Statement.{statement}
+use Rattle.requests.proofs.places.stray_row.Tie as tie
 
 abbrev Inv-loop : tie.InvT-loop
 Inv-loop r c a from q w i₀ i = (i ≤ r) × (stray i c a ≡ false)

@@ -5,8 +5,8 @@ use Rattle.buffers.specs.Fault.{padded}
 use Rattle.buffers.proofs.SizeLaws.{planes-le, words-le, row-fits}
 use Rattle.requests.proofs.FaultLaws.{padded-begin, padded-next, padded-stop, padded-none}
 use native.Mathlib.Omega.{arith}
-use Rattle.requests.proofs.faults.padded_row.Statement.{statement}
-use Rattle.requests.proofs.faults.padded_row.Tie as tie
+use Rattle.requests.proofs.places.padded_row.Statement.{statement}
+use Rattle.requests.proofs.places.padded_row.Tie as tie
 
 abbrev Inv-loop : tie.InvT-loop
 Inv-loop r c a q w i₀ i = (i ≤ r) × (padded i c a ≡ false)
