@@ -5,7 +5,7 @@ use native.Mathlib.Nat.{div-eq-of-lt}
 use native.Mathlib.Numerals.{one-add, add-one}
 use native.Mathlib.Omega.{arith}
 use lib.Arith.{digits-div, digits-mod}
-use lib.Pow.{shr-shr, shl-shr, pow-mono, mod-pow-add}
+use lib.Pow.{shr-shr, shl-shr, pow-mono, pow-pos, mod-pow-add}
 use lib.Bits.{shifted-half, shifted-even}
 use Rattle.cells.specs.Bit.{bit, wordOf}
 
@@ -80,3 +80,11 @@ bit-shl-low w (suc k) (suc t) l = bit-suc _ t ∙ ap (λ (x : ℕ). bit x t) (sh
 
 pub bit-shl-high : (w k t : ℕ) → bit (w * 2 ^ k) (k + t) ≡ bit w t
 bit-shl-high w k t = sym (bit-shr (w * 2 ^ k) k t) ∙ ap (λ (x : ℕ). bit x t) (shl-shr w k)
+
+-- `!w`, of n bits
+pub bit-not : (n w t : ℕ) → w < 2 ^ n → t < n → bit (2 ^ n - 1 - w) t ≡ 1 - bit w t
+bit-not zero w t h l = absurd (omega arith)
+bit-not (suc n) w zero h l = omega (arith, bit-zero w, bit-zero (2 ^ suc n - 1 - w), pow-pos n)
+bit-not (suc n) w (suc t) h l =
+    let half : (2 ^ suc n - 1 - w) / 2 ≡ 2 ^ n - 1 - w / 2 = omega (arith, pow-pos n) in
+    bit-suc _ t ∙ ap (λ (x : ℕ). bit x t) half ∙ bit-not n (w / 2) t (half-lt n w h) (omega arith) ∙ ap (λ (x : ℕ). 1 - x) (sym (bit-suc w t))

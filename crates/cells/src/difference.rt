@@ -1,4 +1,4 @@
-// The difference of the digits at each place. The last `& unit` changes no legal result; with it the back end makes vector code.
+// The difference of the digits at each place, by where each operand is plus, minus or zero, as the sum is written.
 ghost use Rattle.cells.specs.Digit.{sub3};
 ghost use Rattle.cells.specs.Pair.{Good, at, Is};
 use crate::Cells;
@@ -7,10 +7,18 @@ pub fn difference(x: Cells, y: Cells) -> Cells
     requires { ⌜ Good x × Good y ⌝ }
     ensures { λ r. ⌜ Is (λ t. sub3 (at x t) (at y t)) r ⌝ }
 {
-    let a = x.unit ^ y.unit;
-    let unit = a | (x.sign ^ y.sign);
+    let x_plus = x.unit ^ x.sign;
+    let y_plus = y.unit ^ y.sign;
+    let x_minus = x.sign;
+    let y_minus = y.sign;
+    let x_zero = !x.unit;
+    let y_zero = !y.unit;
+    // 0 - 0, 2 - 2 and 1 - 1
+    let zero = !(x_zero ^ y_zero) & !(x_minus ^ y_minus);
+    // 0 - 1, 1 - 2 and 2 - 0; all others give plus
+    let minus = !(x_zero ^ y_plus) & !(x_plus ^ y_minus);
     Cells {
-        unit: unit,
-        sign: (a ^ y.sign) & (y.unit ^ x.sign) & unit,
+        unit: !zero,
+        sign: minus,
     }
 }

@@ -1,4 +1,6 @@
-// The sum of the digits at each place, in six word operations. The article prints the two results exchanged.
+// The sum of the digits at each place, by where each operand is plus (1), minus (2) or zero. `!(a ^ b)` reads: a just where b.
+// It is not the article's six operations (its 4.1), since they are printed with the result bits exchanged: r0, the unit, is there what `minus` is here, and r1,
+// the sign, what `!zero` is here, so that 1 + 0 would be sign without unit. The back end makes six operations of this too.
 ghost use Rattle.cells.specs.Digit.{add3};
 ghost use Rattle.cells.specs.Pair.{Good, at, Is};
 use crate::Cells;
@@ -7,10 +9,18 @@ pub fn sum(x: Cells, y: Cells) -> Cells
     requires { ⌜ Good x × Good y ⌝ }
     ensures { λ r. ⌜ Is (λ t. add3 (at x t) (at y t)) r ⌝ }
 {
-    let a = x.unit ^ y.sign;
-    let b = x.sign ^ y.unit;
+    let x_plus = x.unit ^ x.sign;
+    let y_plus = y.unit ^ y.sign;
+    let x_minus = x.sign;
+    let y_minus = y.sign;
+    let x_zero = !x.unit;
+    let y_zero = !y.unit;
+    // 1 + 2, 2 + 1 and 0 + 0
+    let zero = !(x_plus ^ y_minus) & !(x_minus ^ y_plus);
+    // 0 + 2, 2 + 0 and 1 + 1; all others give plus
+    let minus = !(x_zero ^ y_minus) & !(x_minus ^ y_zero);
     Cells {
-        unit: (a ^ x.sign) | (b ^ y.sign),
-        sign: a & b,
+        unit: !zero,
+        sign: minus,
     }
 }
