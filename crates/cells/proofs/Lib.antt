@@ -4,6 +4,7 @@ pub mod WordLaws
 pub mod MaskLaws
 pub mod PairLaws
 pub mod FormLaws
+pub mod ArticleLaws
 pub mod EncodeLaws
 pub mod ScalingLaws
 pub mod AnyLaws
