@@ -145,7 +145,7 @@ lawful f h ps = leb (bits ps h) (bits ps f)
 abbrev exact : Form → Form → (List ℕ → ℕ) → List (ℕ × ℕ) → Bool
 exact f h g ps = eqb (bits ps f + bits ps h) (g (sums ps))
 
--- at every choice of n legal cells; and zeros, which are all there is past the 64 places, give a zero
+-- so at every choice of n legal cells; and zeros, which are all there is past the 64 places, give 0
 abbrev pub table : ℕ → Form → Form → (List ℕ → ℕ) → Bool
 table n f h g = all n (λ ps. lawful f h ps && exact f h g ps) && eqb (g (replicate n 0)) 0
 

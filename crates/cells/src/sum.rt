@@ -1,6 +1,6 @@
-// The sum of the digits at each place, by where each operand is plus (1), minus (2) or zero. `!(a ^ b)` reads: a just where b.
-// It is not the article's six operations (its 4.1), since they are printed with the result bits exchanged: r0, the unit, is there what `minus` is here, and r1,
-// the sign, what `!zero` is here, so that 1 + 0 would be sign without unit. The back end makes six operations of this too.
+// The sum of the digits at each place, by where each operand is plus (1), minus (2) or zero. Read `!(a ^ b)` as: a just where b.
+// These are not the article's six operations (its 4.1), whose two result bits are printed exchanged: its r0, the unit, is what `minus` is here, and
+// its r1, the sign, what `!zero` is here; so 1 + 0 would be a sign without unit. The back end makes the same six operations of this body.
 ghost use Rattle.cells.specs.Digit.{add3};
 ghost use Rattle.cells.specs.Pair.{Good, at, Is};
 use crate::Cells;
