@@ -8,15 +8,14 @@ pub fn difference(x: Cells, y: Cells) -> Cells
     ensures { λ r. ⌜ Is (λ t. sub3 (at x t) (at y t)) r ⌝ }
 {
     let x_plus = x.unit ^ x.sign;
-    let y_plus = y.unit ^ y.sign;
     let x_minus = x.sign;
     let y_minus = y.sign;
     let x_zero = !x.unit;
     let y_zero = !y.unit;
     // 0 - 0, 2 - 2 and 1 - 1
     let zero = !(x_zero ^ y_zero) & !(x_minus ^ y_minus);
-    // 0 - 1, 1 - 2 and 2 - 0; all others give plus
-    let minus = !(x_zero ^ y_plus) & !(x_plus ^ y_minus);
+    // 1 - 2, 2 - 0 and 0 - 1; all others give plus
+    let minus = !(x_plus ^ y_minus) & !(x_minus ^ y_zero);
     Cells {
         unit: !zero,
         sign: minus,

@@ -10,12 +10,12 @@ abbrev zero : Form
 zero = ! (Zero 0 ⊕ Zero 1) & ! (Minus 0 ⊕ Minus 1)
 
 abbrev minus : Form
-minus = ! (Zero 0 ⊕ Plus 1) & ! (Plus 0 ⊕ Minus 1)
+minus = ! (Plus 0 ⊕ Minus 1) & ! (Minus 0 ⊕ Zero 1)
 
 returns : tie.Need-returns
 unfolding sub3
 returns c =
-    let s = c .before .before .before .before in
+    let s = c .before .before .before in
     law (! zero) minus (on2 sub3) ((_, _) ∷ (_, _) ∷ []) tt (s .pre .0, (s .pre .1, tt)) ((omega arith, omega arith), ((omega arith, omega arith), tt))
 
 pub difference-spec : {M : Type 1} → statement M
