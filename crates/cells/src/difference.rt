@@ -14,7 +14,7 @@ pub fn difference(x: Cells, y: Cells) -> Cells
     let y_zero = !y.unit;
     // 0 - 0, 2 - 2 and 1 - 1
     let zero = !(x_zero ^ y_zero) & !(x_minus ^ y_minus);
-    // 1 - 2, 2 - 0 and 0 - 1; all others give plus
+    // 1 - 2, 2 - 0 and 0 - 1; what is left, 1 - 0, 0 - 2 and 2 - 1, is plus
     let minus = !(x_plus ^ y_minus) & !(x_minus ^ y_zero);
     Cells {
         unit: !zero,

@@ -17,7 +17,7 @@ pub fn sum(x: Cells, y: Cells) -> Cells
     let y_zero = !y.unit;
     // 1 + 2, 2 + 1 and 0 + 0
     let zero = !(x_plus ^ y_minus) & !(x_minus ^ y_plus);
-    // 0 + 2, 2 + 0 and 1 + 1; all others give plus
+    // 0 + 2, 2 + 0 and 1 + 1; what is left, 0 + 1, 1 + 0 and 2 + 2, is plus
     let minus = !(x_zero ^ y_minus) & !(x_minus ^ y_zero);
     Cells {
         unit: !zero,
