@@ -1,11 +1,11 @@
--- The article's formulas over words of 64 bits (its 4.1), where r0 is to be the unit and r1 the sign: those of the sum are right if they are exchanged,
--- those of the difference and of the negative as they are printed. Assumes nothing.
+-- The article's formulas of sum and difference over words of 64 bits (its 4.1), where r0 is to be the unit and r1 the sign: those of the sum are right if
+-- they are exchanged, those of the difference as they are printed. Those of the negative are our code. Assumes nothing.
 use mathlib.Core.Path.{_≡_, refl}
-use mathlib.Core.List.{List, [], _∷_}
+use mathlib.Core.List.{[], _∷_}
 use Prim.Native.Nat.{ℕ}
-use Rattle.cells.specs.Digit.{add3, sub3, neg3}
+use Rattle.cells.specs.Digit.{add3, sub3}
 use Rattle.cells.specs.Pair.{digit, Holds}
-use Rattle.cells.proofs.FormLaws.{Form, U, S, _&_, _∣_, _⊕_, words, bits, AllLegal, AllFit, law, on1, on2}
+use Rattle.cells.proofs.FormLaws.{Form, U, S, _&_, _∣_, _⊕_, words, bits, AllLegal, AllFit, law, on2}
 
 -- x is pair 0, y is pair 1
 abbrev sum-r0 : Form
@@ -35,7 +35,3 @@ sum-exchanged x y l w = law sum-r1 sum-r0 (on2 add3) (x ∷ y ∷ []) tt l w
 pub difference-printed : (x y : ℕ × ℕ) → AllLegal (x ∷ y ∷ []) → AllFit (x ∷ y ∷ []) → Holds (λ t. sub3 (at x t) (at y t)) (words (x ∷ y ∷ []) difference-r0) (words (x ∷ y ∷ []) difference-r1)
 unfolding sub3
 difference-printed x y l w = law difference-r0 difference-r1 (on2 sub3) (x ∷ y ∷ []) tt l w
-
-pub negation-printed : (x : ℕ × ℕ) → AllLegal (x ∷ []) → AllFit (x ∷ []) → Holds (λ t. neg3 (at x t)) (words (x ∷ []) (U 0)) (words (x ∷ []) (U 0 ⊕ S 0))
-unfolding neg3
-negation-printed x l w = law (U 0) (U 0 ⊕ S 0) (on1 neg3) (x ∷ []) tt l w
