@@ -35,10 +35,10 @@ extern "C" {
 #endif
 
 /* The version, counted as CHANGELOG.md says. It stands here alone: `make install` hands it to pkg-config. */
-#define NYUZOLAMBA_VERSION_MAJOR 2
+#define NYUZOLAMBA_VERSION_MAJOR 3
 #define NYUZOLAMBA_VERSION_MINOR 0
 #define NYUZOLAMBA_VERSION_PATCH 0
-#define NYUZOLAMBA_VERSION "2.0.0"
+#define NYUZOLAMBA_VERSION "3.0.0"
 
 /* What comes back: word = number + 2^8 * buffer + 2^16 * row + 2^32 * column, where the number is one of these. NYUZOLAMBA_SIGN and
  * NYUZOLAMBA_PADDING come with a place, which makes the word another value than the number: compare NYUZOLAMBA_NUMBER(word) with them. With all other

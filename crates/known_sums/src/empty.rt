@@ -1,6 +1,5 @@
 // Matrices of no columns, and of no rows, in every request.
 use super::show::answer;
-use super::show::value;
 use requests::Size;
 
 pub fn matrices() {
@@ -63,16 +62,5 @@ pub fn bytes() {
 
 pub fn tally() {
     let none = [0u64; 1];
-    let t = matrix::tally::tally(0, &none[0..0]);
-    let said = t.answer;
-    answer(b"tally of no columns:", said);
-    let counts = t.counts;
-    value(b"zeros:", counts[0]);
-    value(b"ones:", counts[1]);
-    value(b"twos:", counts[2]);
-    let mut balanced = 0u64;
-    if t.balanced {
-        balanced = 1;
-    }
-    value(b"balanced:", balanced);
+    super::tallies::tally(b"tally of no columns:", 0, &none[0..0]);
 }

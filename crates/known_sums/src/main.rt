@@ -5,6 +5,7 @@ mod jobs;
 mod limits;
 mod places;
 mod show;
+mod tallies;
 
 fn main() {
     limits::sizes();
@@ -12,6 +13,8 @@ fn main() {
     empty::matrices();
     empty::bytes();
     empty::tally();
+    tallies::all_levels();
+    tallies::no_low_level();
     jobs::quotes();
     jobs::no_middle();
     jobs::no_columns();

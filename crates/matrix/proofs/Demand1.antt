@@ -4,7 +4,6 @@ use mathlib.Core.Path.{_≡_}
 use mathlib.Core.Bool.{Bool, false}
 use mathlib.Core.List.{List, [], _∷_}
 use Prim.Native.Nat.{ℕ, _^_}
-use lib.Dec.{eqb}
 use lib.ListN.{length}
 use Rattle.buffers.specs.Buffer.{cell, encode}
 use Rattle.requests.specs.declared.Size.{Size}
@@ -22,8 +21,8 @@ use Rattle.matrix.specs.Difference.{differenceOf, differenceMeans}
 use Rattle.matrix.specs.Negation.{negationOf, negationMeans}
 use Rattle.matrix.specs.Scaling.{scalingOf, scalingTests, scalingMeans}
 use Rattle.matrix.specs.Transpose.{transposedSize, transposeOf, transposeMeans}
-use Rattle.rows.specs.Tally.{columnsWith, tallyRow}
-use Rattle.matrix.specs.Tally.{tallyMeans}
+use Rattle.rows.specs.Tally.{tallyRow}
+use Rattle.matrix.specs.Tally.{balanced, tallyMeans}
 use Rattle.matrix.specs.declared.job.Job.{Job}
 use Rattle.matrix.specs.declared.opening.Opened.{Opened}
 use Rattle.matrix.specs.declared.turn.Turned.{Turned}
@@ -75,7 +74,7 @@ unpack-exact s a out r o says = exact (unpackTests s a (length out)) out (unpack
 
 pub tally-exact : (c : ℕ) (a : List ℕ) (r : Tallied) → (word (r .answer), (r .counts, r .balanced)) ≡ tallyMeans c a
     → Exact {S = List ℕ × Bool} (checkTests (record { rows = 1; columns = c }) a) (0 ∷ 0 ∷ 0 ∷ [], false)
-    (tallyRow (cell c a 0) c, eqb (columnsWith 1 (cell c a 0) c) (columnsWith 2 (cell c a 0) c)) (word (r .answer)) (r .counts, r .balanced)
+    (tallyRow (cell c a 0) c, balanced (cell c a 0) c) (word (r .answer)) (r .counts, r .balanced)
 unfolding tallyMeans checkTests faults
 tally-exact c a r says = exact (checkTests (record { rows = 1; columns = c }) a) _ _ (word (r .answer)) (r .counts, r .balanced) (faults-positive First (record { rows = 1; columns = c }) a) says
 

@@ -1,8 +1,8 @@
 -- Shown out by demand 2: an implementation that refuses everything, and one with a fixed answer. A table of sums of one cell, computed from
 -- the requests' own statements, says that each request has two inputs that are done and leave different things, though all but one matrix is
 -- the same in both. Assumes nothing.
-use mathlib.Core.Path.{_≡_, refl, ap}
-use mathlib.Core.Bool.{Bool, true, false}
+use mathlib.Core.Path.{_≡_, refl, sym, ap, _∙_}
+use mathlib.Core.Bool.{Bool, true, false, true≢false}
 use mathlib.Core.List.{List, [], _∷_}
 use Prim.Native.Nat.{ℕ, _+_, _^_}
 use native.Mathlib.Omega.{arith}
@@ -30,7 +30,8 @@ use Rattle.matrix.specs.Negation.{negationOf, negationMeans}
 use Rattle.matrix.specs.Scaling.{scalingOf, scalingTests, scalingMeans}
 use Rattle.matrix.specs.Transpose.{transposeOf, transposeMeans}
 use Rattle.rows.specs.Tally.{columnsWith, tallyRow}
-use Rattle.matrix.specs.Tally.{tallyMeans}
+use Rattle.matrix.specs.declared.tally.Tallied.{Tallied}
+use Rattle.matrix.specs.Tally.{balanced, tallyMeans}
 
 abbrev one : Size
 one = record { rows = 1; columns = 1 }
@@ -51,6 +52,13 @@ stray1 = 0 ∷ 1 ∷ []
 abbrev padded1 : List ℕ
 padded1 = 2 ∷ 0 ∷ []
 
+-- a row with one of each level, and one that never uses the low level: 0 1 2, and 1 2
+abbrev levels3 : List ℕ
+levels3 = 6 ∷ 4 ∷ []
+
+abbrev highs2 : List ℕ
+highs2 = 3 ∷ 2 ∷ []
+
 pub record Sums : Type 0 where
   pub checked : (checkMeans one one1 ≡ 0) × (checkMeans one stray1 ≡ 5 + 2 ^ 8) × (checkMeans one padded1 ≡ 6 + 2 ^ 8 + 2 ^ 32)
   pub added : (sumMeans one one one1 one1 zero1 ≡ (0, two1)) × (sumMeans one one one1 two1 zero1 ≡ (0, zero1)) × (sumMeans one one two1 two1 zero1 ≡ (0, one1))
@@ -60,10 +68,10 @@ pub record Sums : Type 0 where
   pub transposed : (transposeMeans one two1 zero1 ≡ (0, two1)) × (transposeMeans one one1 zero1 ≡ (0, one1))
   pub packed : (packMeans one (2 ∷ []) zero1 ≡ (0, two1)) × (packMeans one (1 ∷ []) zero1 ≡ (0, one1))
   pub unpacked : (unpackMeans one two1 (0 ∷ []) ≡ (0, 2 ∷ [])) × (unpackMeans one one1 (0 ∷ []) ≡ (0, 1 ∷ []))
-  pub tallied : (tallyMeans 1 one1 ≡ (0, (0 ∷ 1 ∷ 0 ∷ [], false))) × (tallyMeans 1 zero1 ≡ (0, (1 ∷ 0 ∷ 0 ∷ [], true)))
+  pub tallied : (tallyMeans 1 one1 ≡ (0, (0 ∷ 1 ∷ 0 ∷ [], false))) × (tallyMeans 1 zero1 ≡ (0, (1 ∷ 0 ∷ 0 ∷ [], false))) × (tallyMeans 3 levels3 ≡ (0, (1 ∷ 1 ∷ 1 ∷ [], true))) × (tallyMeans 2 highs2 ≡ (0, (0 ∷ 1 ∷ 1 ∷ [], false)))
 
 pub sums : Sums
-unfolding checkMeans checkTests sumMeans sumOf differenceMeans differenceOf negationMeans negationOf scalingMeans scalingTests scalingOf transposeMeans transposeOf packMeans packTests packOf unpackMeans unpackTests unpackOf tallyMeans tallyRow columnsWith answered first left pairTests singleTests over unequal unfits unfit unlike faults placed stray padded strayAt paddedAt any least unit sign cell bitAt bit planes wide words encode joined plane tab wordOf unitOf signOf add3 sub3 neg3 mul3 byteAt bytes sum is
+unfolding checkMeans checkTests sumMeans sumOf differenceMeans differenceOf negationMeans negationOf scalingMeans scalingTests scalingOf transposeMeans transposeOf packMeans packTests packOf unpackMeans unpackTests unpackOf tallyMeans tallyRow balanced columnsWith answered first left pairTests singleTests over unequal unfits unfit unlike faults placed stray padded strayAt paddedAt any least unit sign cell bitAt bit planes wide words encode joined plane tab wordOf unitOf signOf add3 sub3 neg3 mul3 byteAt bytes sum is
 sums = record {
   checked = (refl, refl, refl);
   added = (refl, refl, refl);
@@ -73,7 +81,7 @@ sums = record {
   transposed = (refl, refl);
   packed = (refl, refl);
   unpacked = (refl, refl);
-  tallied = (refl, refl);
+  tallied = (refl, refl, refl, refl);
 }
 
 -- 2 is not 1, in its words and in a byte
@@ -86,7 +94,7 @@ byte-two-one e = let z : _≡_ {A = ℕ} 2 1 = ap (λ (l : List ℕ). getD l 0 0
 two-zero : two1 ≡ zero1 → ⊥
 two-zero e = let z : _≡_ {A = ℕ} 1 0 = ap (λ (l : List ℕ). getD l 0 0) e in omega arith
 
-tallies-differ : _≡_ {A = List ℕ × Bool} (0 ∷ 1 ∷ 0 ∷ [], false) (1 ∷ 0 ∷ 0 ∷ [], true) → ⊥
+tallies-differ : _≡_ {A = List ℕ × Bool} (0 ∷ 1 ∷ 0 ∷ [], false) (1 ∷ 0 ∷ 0 ∷ [], false) → ⊥
 tallies-differ e = let z : _≡_ {A = ℕ} 0 1 = ap (λ (v : List ℕ × Bool). getD (v .0) 0 0) e in omega arith
 
 pub sum-shown-out : ShownOut {X = Size × Size × List ℕ × List ℕ} {I = List ℕ} {S = List ℕ} word (λ x b. sumMeans (x .0) (x .1) (x .2) b (x .3))
@@ -111,7 +119,15 @@ pub unpack-shown-out : ShownOut {X = Size × List ℕ} {I = List ℕ} {S = List 
 unpack-shown-out = shown-out word _ (one, 0 ∷ []) two1 one1 (2 ∷ []) (1 ∷ []) (sums .unpacked .0) (sums .unpacked .1) byte-two-one
 
 pub tally-shown-out : ShownOut {X = ℕ} {I = List ℕ} {S = List ℕ × Bool} word tallyMeans
-tally-shown-out = shown-out word _ 1 one1 zero1 (0 ∷ 1 ∷ 0 ∷ [], false) (1 ∷ 0 ∷ 0 ∷ [], true) (sums .tallied .0) (sums .tallied .1) tallies-differ
+tally-shown-out = shown-out word _ 1 one1 zero1 (0 ∷ 1 ∷ 0 ∷ [], false) (1 ∷ 0 ∷ 0 ∷ [], false) (sums .tallied .0) (sums .tallied .1) tallies-differ
+
+-- no tally calls a row balanced wherever its ones and twos are equally many, as tallies did before Q-3
+pub not-two-levels : (f : ℕ → List ℕ → Tallied) → ((c : ℕ) (a : List ℕ) → (word (f c a .answer), (f c a .counts, f c a .balanced)) ≡ tallyMeans c a)
+    → ((c : ℕ) (a : List ℕ) → word (f c a .answer) ≡ 0 → getD (f c a .counts) 1 0 ≡ getD (f c a .counts) 2 0 → f c a .balanced ≡ true) → ⊥
+not-two-levels f meets old =
+    let said = meets 2 highs2 ∙ sums .tallied .3 in
+    let even = ap (λ (v : ℕ × (List ℕ × Bool)). getD (v .1 .0) 1 0) said ∙ sym (ap (λ (v : ℕ × (List ℕ × Bool)). getD (v .1 .0) 2 0) said) in
+    true≢false (sym (old 2 highs2 (ap (λ (v : ℕ × (List ℕ × Bool)). v .0) said) even) ∙ ap (λ (v : ℕ × (List ℕ × Bool)). v .1 .1) said)
 
 pub check-shown-out : AnswerShownOut {X = Size} {I = List ℕ} word checkMeans
 check-shown-out = answer-shown-out word checkMeans one one1 stray1 (5 + 2 ^ 8) (sums .checked .0) (sums .checked .1) (λ e. omega arith)

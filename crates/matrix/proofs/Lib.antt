@@ -8,6 +8,7 @@ pub mod TallyLaws
 pub mod Outcomes
 pub mod Demand1
 pub mod FieldLaws
+pub mod BalancedLaws
 pub mod RoundTrips
 pub mod Demand2
 pub mod Impostors

@@ -68,10 +68,11 @@ fn transposed(a: &Digits) -> Digits {
     made
 }
 
-/// Zeros, ones, twos, and 1 if ones and twos are equally many.
+/// Zeros, ones, twos, and 1 if all three are equally many: each is a third of the columns.
 fn tally(row: &Digits) -> Vec<u64> {
-    let count = |digit: u8| row.cells.iter().filter(|cell| **cell == digit).count() as u64;
-    vec![count(0), count(1), count(2), (count(1) == count(2)) as u64]
+    let count = |digit: u8| row.cells.iter().filter(|cell| **cell == digit).count();
+    let balanced = [0, 1, 2].iter().all(|digit| 3 * count(*digit) == row.columns);
+    vec![count(0) as u64, count(1) as u64, count(2) as u64, balanced as u64]
 }
 
 /// The sum over blocks of (2^w - 1) + m times the smaller of 2 and w.

@@ -14,21 +14,47 @@ pub fn legal(random: &mut Random, name: Name, turn: usize) -> Call {
         let side = sizes.0 .1.min(sizes.1 .1).min(130);
         sizes = ((side, side), (side, side));
     }
+    let balance = name == Name::Tally && turn % 3 == 1;
+    if balance {
+        sizes.0 .1 = thrice(sizes.0 .1);
+    }
     let width = width(random, name, turn);
     let mut call = made(random, name, sizes, width);
     if shared {
         call.b = call.a.clone();
         call.shared = true;
     }
-    if name == Name::Tally && turn % 3 == 1 {
+    if balance {
         call.a = balanced(random, call.a_size.1 as usize).words();
+    } else if name == Name::Tally && turn % 3 == 2 {
+        call.a = paired(random, call.a_size.1 as usize).words();
     }
     record(random, &mut call);
     call
 }
 
-/// A row with as many ones as twos: of two neighbours, one is the other's negation.
+/// The nearest multiple of 3 below a count of columns; above it where that would have fewer words.
+fn thrice(columns: u64) -> u64 {
+    let below = columns - columns % 3;
+    if words_of_plane(below as usize) == words_of_plane(columns as usize) {
+        below
+    } else {
+        below + 3
+    }
+}
+
+/// A row with as many zeros as ones and twos, in any order.
 fn balanced(random: &mut Random, columns: usize) -> Digits {
+    let mut row = Digits::zero(1, columns);
+    for j in 0..columns {
+        row.cells[j] = (j % 3) as u8;
+        row.cells.swap(j, random.below(j + 1));
+    }
+    row
+}
+
+/// A row with as many ones as twos, which alone does not make it balanced: of two neighbours, one is the other's negation.
+fn paired(random: &mut Random, columns: usize) -> Digits {
     let mut row = Digits::zero(1, columns);
     for pair in row.cells.chunks_exact_mut(2) {
         let digit = random.below(3) as u8;

@@ -1,5 +1,5 @@
 //! What a run has met, and what it has to meet: every number of every request, in every buffer that it looks at, places of all kinds, every pair of
-//! faults, rows of every class of lengths, jobs of every width.
+//! faults, rows of every class of lengths, rows balanced and not, jobs of every width.
 
 use crate::call::{Call, Name, Part, NAMES};
 use crate::counts::Counts;
@@ -24,6 +24,8 @@ pub struct Met {
     pub plans: [usize; 14],
     /// Words a plane that accepted calls had: in A's rows, and in those of what is read or written across it.
     planes: BTreeSet<(usize, bool, usize)>,
+    /// What tallies of rows with columns said: whether ones and twos were equally many, and whether the row was balanced.
+    balances: BTreeSet<(bool, bool)>,
     /// Widths of jobs taken to their end, as they were opened.
     pub widths: BTreeSet<u64>,
     pub jobs: u64,
@@ -51,6 +53,10 @@ impl Met {
         if trial.refusals.is_empty() && !idle {
             self.rows_of(call, false, Some(Part::A));
             self.rows_of(call, true, across(call.name));
+            if call.name == Name::Tally && call.a_size.1 > 0 {
+                let said = &trial.left.given;
+                self.balances.insert((said[1] == said[2], said[3] == 1));
+            }
         }
     }
 
@@ -88,6 +94,11 @@ impl Met {
             }
             if self.plans[name as usize] < plans(name).len() {
                 never.push(format!("{} every pair of faults", name.text()));
+            }
+        }
+        for (even, balanced) in [(true, true), (true, false), (false, false)] {
+            if !self.balances.contains(&(even, balanced)) {
+                never.push(format!("a tally with ones equal to twos: {even}, balanced: {balanced}"));
             }
         }
         never.extend(self.counts.print_places(&[5, 6, 8], KINDS.len()));

@@ -1,4 +1,5 @@
 use mathlib.Core.Path.{sym, ap, _∙_}
+use mathlib.Core.Bool.{Bool, _&&_}
 use mathlib.Core.List.{List}
 use Prim.Native.Nat.{ℕ}
 use lib.Dec.{eqb}
@@ -12,7 +13,7 @@ use Rattle.requests.proofs.PairLaws.{faults-positive}
 use Rattle.requests.proofs.AnswerLaws.{first-none, refused, finished}
 use Rattle.rows.specs.Tally.{tallyRow}
 use Rattle.matrix.specs.Check.{checkTests, checkMeans}
-use Rattle.matrix.specs.Tally.{tallyMeans}
+use Rattle.matrix.specs.Tally.{balanced, tallyMeans}
 use Rattle.matrix.proofs.TallyLaws.{row-zero, tally-cells}
 use borrow.Author.Needs.{needs}
 use native.Mathlib.Omega.{arith}
@@ -41,17 +42,25 @@ tally-requires c κs =
     let t : None (checkTests (record { rows = 1; columns = c .before .before .before .before .before .args .columns }) (c .before .before .before .before .before .args .a .now)) = first-none (checkTests (record { rows = 1; columns = c .before .before .before .before .before .args .columns }) (c .before .before .before .before .before .args .a .now)) (faults-positive First (record { rows = 1; columns = c .before .before .before .before .before .args .columns }) (c .before .before .before .before .before .args .a .now)) (sym (c .before .before .before .check .ensures) ∙ sym (c .before .before .word .ensures) ∙ c .before .if1 .left) in
     (c .planes .ensures, over-columns _ (t .0), row-zero _ _ _ (c .planes .ensures) (legal-tests 1 (c .before .before .before .before .before .args .columns) (c .before .before .before .before .before .args .a .now) (unfit-long _ _ (t .1 .0)) (t .1 .1 .0) (t .1 .1 .1 .0)) (λ n. omega (arith, c .before .before .before .before .shared-slice-known .given n)))
 
-array-read-balanced : tie.Need-array-read-balanced
-array-read-balanced c = search needs
+array-read-equally-many : tie.Need-array-read-equally-many
+array-read-equally-many c = search needs
 
-array-read-balanced-2 : tie.Need-array-read-balanced-2
-array-read-balanced-2 c = search needs
+array-read-equally-many-2 : tie.Need-array-read-equally-many-2
+array-read-equally-many-2 c = search needs
+
+array-read-equally-many-3 : tie.Need-array-read-equally-many-3
+array-read-equally-many-3 c = search needs
+
+equally-many-requires : tie.Need-equally-many-requires
+equally-many-requires c κs = search needs
 
 returns-2 : tie.Need-returns-2
-unfolding tallyMeans checkMeans tallyRow
+unfolding tallyMeans checkMeans tallyRow balanced
 returns-2 c =
-    let e = c .tally .ensures ∙ tally-cells (c .before .before .before .before .before .before .args .columns) _ (c .before .before .before .before .before .before .args .a .now) (c .before .planes .ensures) in
-    finished _ _ _ _ (sym (c .before .before .before .before .check .ensures) ∙ sym (c .before .before .before .word .ensures) ∙ c .before .before .if1 .left) (ap (λ (l : List ℕ). (l, eqb (getD l 1 0) (getD l 2 0))) e)
+    let given = c .before .before .before .before .before .before .before .args in
+    let e = c .before .tally .ensures ∙ tally-cells (given .columns) _ (given .a .now) (c .before .before .planes .ensures) in
+    finished _ _ _ _ (sym (c .before .before .before .before .before .check .ensures) ∙ sym (c .before .before .before .before .word .ensures) ∙ c .before .before .before .if1 .left)
+    (ap (λ (b : Bool). (c .before .tally .result, b)) (c .equally-many .ensures) ∙ ap (λ (l : List ℕ). (l, eqb (getD l 0 0) (getD l 1 0) && eqb (getD l 1 0) (getD l 2 0))) e)
 
 pub tally-spec : {M : Type 1} → statement M
 tally-spec =
@@ -62,6 +71,8 @@ tally-spec =
     returns
     planes-requires
     tally-requires
-    array-read-balanced
-    array-read-balanced-2
+    array-read-equally-many
+    array-read-equally-many-2
+    array-read-equally-many-3
+    equally-many-requires
     returns-2)
