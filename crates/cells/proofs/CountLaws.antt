@@ -1,17 +1,20 @@
 -- The count of a word's set bits, as a sum. Assumes nothing.
-use mathlib.Core.Path.{_≡_, sym, ap, _∙_}
+use mathlib.Core.Path.{_≡_, refl, sym, ap, _∙_}
+use mathlib.Core.Bool.{Bool, true, false}
 use Prim.Native.Nat.{ℕ, zero, suc, _+_, _*_, _/_, _%_, _^_, _≤_, _<_, min}
 use native.Mathlib.Numerals.{one-add}
 use native.Mathlib.Omega.{arith}
+use borrow.Author.Tests.{eqb-true, eqb-false}
 use lib.Arith.{lt-one}
 use lib.Count.{ones, ones-step}
+use lib.Dec.{eqb}
 use lib.Bits.{bitAnd, bitXor, differ, and-lt, xor-lt}
 use Rattle.cells.specs.Bit.{bit}
 use Rattle.cells.specs.Counts.{sum, is, count}
 use Rattle.cells.specs.Pair.{digit, LegalPair}
 use Rattle.cells.proofs.BitLaws.{bit-lt, bit-and, bit-xor}
 use Rattle.cells.proofs.WordLaws.{bit-zero, bit-suc}
-use Rattle.cells.proofs.PairLaws.{cases}
+use Rattle.cells.proofs.PairLaws.{cases, by-digit}
 use Rattle.cells.proofs.SumLaws.{sum-le, sum-same, sum-ext, sum-from}
 
 -- the count of the set bits is the sum of the bits
@@ -29,6 +32,31 @@ is-le zero zero = omega arith
 is-le zero (suc b) = omega arith
 is-le (suc a) zero = omega arith
 is-le (suc a) (suc b) = is-le a b
+
+-- a digit is just one of the three
+pub is-one : (d : ℕ) → d < 3 → is d 0 + is d 1 + is d 2 ≡ 1
+unfolding is
+is-one = by-digit (λ (d : ℕ). is d 0 + is d 1 + is d 2 ≡ 1) refl refl refl
+
+is-refl : (a : ℕ) → is a a ≡ 1
+unfolding is
+is-refl zero = refl
+is-refl (suc a) = is-refl a
+
+is-other : (a b : ℕ) → (a ≡ b → ⊥) → is a b ≡ 0
+unfolding is
+is-other zero zero ne = absurd (ne refl)
+is-other zero (suc b) ne = refl
+is-other (suc a) zero ne = refl
+is-other (suc a) (suc b) ne = is-other a b (λ e. ne (ap suc e))
+
+-- where a is b just where p is q
+pub is-where : (a b p q : ℕ) → (a ≡ b → p ≡ q) → (p ≡ q → a ≡ b) → is a b ≡ is p q
+is-where a b p q to from = go (eqb a b) refl
+  where
+    go : (t : Bool) → eqb a b ≡ t → is a b ≡ is p q
+    go true e = ap (is a) (sym (eqb-true a b e)) ∙ is-refl a ∙ sym (ap (is p) (sym (to (eqb-true a b e))) ∙ is-refl p)
+    go false e = is-other a b (eqb-false a b e) ∙ sym (is-other p q (λ h. eqb-false a b e (from h)))
 
 -- ---- the three words whose set bits are the places of a digit under a mask
 

@@ -14,6 +14,13 @@ cases P p q r (suc zero) (suc zero) h l = r
 cases P p q r (suc zero) (suc (suc s)) h l = absurd (omega arith)
 cases P p q r (suc (suc u)) s h l = absurd (omega arith)
 
+-- a property of 0, 1 and 2 is one of every digit
+pub by-digit : (P : ℕ → Type 0) → P 0 → P 1 → P 2 → (d : ℕ) → d < 3 → P d
+by-digit P p q r zero h = p
+by-digit P p q r (suc zero) h = q
+by-digit P p q r (suc (suc zero)) h = r
+by-digit P p q r (suc (suc (suc d))) h = absurd (omega arith)
+
 -- words hold their own digits
 pub holds-self : (u s : ℕ) → LegalPair u s → Holds (digit u s) u s
 holds-self u s h = record { legal = h; digits = λ t. refl }

@@ -1,18 +1,21 @@
 -- Balanced rows: each level has a third of the columns, and levels that change places keep it. Assumes nothing.
-use mathlib.Core.Path.{_≡_, refl, sym, ap, ap₂, _∙_}
-use mathlib.Core.Bool.{Bool, true, false, _&&_, and-eq-true-iff}
+use mathlib.Core.Path.{_≡_, refl, sym, ap, _∙_}
+use mathlib.Core.Bool.{Bool, true, false, and-eq-true-iff}
 use mathlib.Core.List.{List}
-use Prim.Native.Nat.{ℕ, zero, suc, _+_, _*_, _/_, _%_, _≤_, _<_}
+use Prim.Native.Nat.{ℕ, _*_, _/_, _%_, _<_}
 use native.Mathlib.Omega.{arith}
 use lib.Dec.{eqb}
-use borrow.Author.Tests.{eqb-true, eqb-false, eq-eqb}
-use Rattle.cells.specs.Counts.{sum, is}
+use borrow.Author.Tests.{eqb-true, eq-eqb}
+use Rattle.cells.specs.Counts.{sum}
 use Rattle.cells.specs.Digit.{add3, sub3, neg3}
+use Rattle.cells.proofs.CountLaws.{is-where}
+use Rattle.cells.proofs.PairLaws.{by-digit}
 use Rattle.cells.proofs.SumLaws.{sum-ext}
 use Rattle.buffers.specs.Buffer.{cell, encode}
 use Rattle.buffers.proofs.SizeLaws.{cell-lt}
 use Rattle.buffers.proofs.BufferLaws.{cell-encode}
 use Rattle.rows.specs.Tally.{columnsWith}
+use Rattle.rows.proofs.TallyLaws.{columns-same, columns-all}
 use Rattle.matrix.specs.Negation.{negationOf}
 use Rattle.matrix.specs.Sum.{sumOf}
 use Rattle.matrix.specs.Tally.{balanced}
@@ -28,39 +31,6 @@ same-truth false false f g = refl
 never-true : (p : Bool) → (p ≡ true → ⊥) → p ≡ false
 never-true true ne = absurd (ne refl)
 never-true false ne = refl
-
--- ---- counts of levels
-
-by-level : (P : ℕ → Type 0) → P 0 → P 1 → P 2 → (d : ℕ) → d < 3 → P d
-by-level P low middle high zero l = low
-by-level P low middle high (suc zero) l = middle
-by-level P low middle high (suc (suc zero)) l = high
-by-level P low middle high (suc (suc (suc d))) l = absurd (omega arith)
-
-one-level : (d : ℕ) → d < 3 → is d 0 + is d 1 + is d 2 ≡ 1
-unfolding is
-one-level = by-level (λ (d : ℕ). is d 0 + is d 1 + is d 2 ≡ 1) refl refl refl
-
-all-levels : (row : ℕ → ℕ) (n s : ℕ) → ((j : ℕ) → j < s + n → row j < 3) → sum s n (λ j. is (row j) 0) + sum s n (λ j. is (row j) 1) + sum s n (λ j. is (row j) 2) ≡ n
-unfolding sum
-all-levels row zero s small = omega arith
-all-levels row (suc n) s small = omega (arith, one-level (row s) (small s (omega arith)), all-levels row n (suc s) (λ j l. small j (omega arith)))
-
-columns-same : (d : ℕ) (row row′ : ℕ → ℕ) (c : ℕ) → ((j : ℕ) → j < c → row j ≡ row′ j) → columnsWith d row c ≡ columnsWith d row′ c
-unfolding columnsWith
-columns-same d row row′ c e = sum-ext _ _ c 0 (λ j _ l. ap (λ (n : ℕ). is n d) (e j (omega arith)))
-
-is-refl : (a : ℕ) → is a a ≡ 1
-unfolding is
-is-refl zero = refl
-is-refl (suc a) = is-refl a
-
-is-other : (a b : ℕ) → (a ≡ b → ⊥) → is a b ≡ 0
-unfolding is
-is-other zero zero ne = absurd (ne refl)
-is-other zero (suc b) ne = refl
-is-other (suc a) zero ne = refl
-is-other (suc a) (suc b) ne = is-other a b (λ e. ne (ap suc e))
 
 -- ---- what a balanced row is
 
@@ -79,15 +49,14 @@ module _ (row : ℕ → ℕ) (c : ℕ) where
   unfolding balanced
   balanced-where e f = rw (eq-eqb _ _ e, eq-eqb _ _ f)
 
-  columns-all : ((j : ℕ) → j < c → row j < 3) → columnsWith 0 row c + columnsWith 1 row c + columnsWith 2 row c ≡ c
-  unfolding columnsWith
-  columns-all small = all-levels row c 0 (λ j l. small j (omega arith))
-
   -- balanced exactly when each of the three counts, times 3, is the length
   pub balanced-exactly : ((j : ℕ) → j < c → row j < 3)
       → (balanced row c ≡ true → (d : ℕ) → d < 3 → 3 * columnsWith d row c ≡ c) × (((d : ℕ) → d < 3 → 3 * columnsWith d row c ≡ c) → balanced row c ≡ true)
   balanced-exactly small = (
-    λ b. by-level (λ (d : ℕ). 3 * columnsWith d row c ≡ c) (omega (arith, equally-many b, columns-all small)) (omega (arith, equally-many b, columns-all small)) (omega (arith, equally-many b, columns-all small)),
+    λ b.
+        let all = columns-all row c small in
+        let same = equally-many b in
+        by-digit (λ (d : ℕ). 3 * columnsWith d row c ≡ c) (omega arith) (omega arith) (omega arith),
     λ each. balanced-where (omega (arith, each 0 (omega arith), each 1 (omega arith))) (omega (arith, each 1 (omega arith), each 2 (omega arith))),
   )
 
@@ -109,19 +78,12 @@ pub record Exchange (f g : ℕ → ℕ) : Type 0 where
   pub back : (d : ℕ) → d < 3 → (g d < 3) × (f (g d) ≡ d)
 
 module _ (f g : ℕ → ℕ) (x : Exchange f g) (row : ℕ → ℕ) (c : ℕ) (small : (j : ℕ) → j < c → row j < 3) where
-  is-exchanged : (a d : ℕ) → a < 3 → d < 3 → is (f a) d ≡ is a (g d)
-  is-exchanged a d l k = go (eqb (f a) d) refl
-    where
-      go : (b : Bool) → eqb (f a) d ≡ b → is (f a) d ≡ is a (g d)
-      go true e =
-          let same : f a ≡ d = eqb-true _ _ e in
-          ap (λ (n : ℕ). is n d) same ∙ is-refl d ∙ sym (ap (is a) (ap g (sym same) ∙ x .there a l .1) ∙ is-refl a)
-      go false e = is-other (f a) d (eqb-false _ _ e) ∙ sym (is-other a (g d) (λ same. eqb-false _ _ e (ap f same ∙ x .back d k .1)))
-
   -- the columns with d are those that had what f takes to d
   pub columns-exchanged : (d : ℕ) → d < 3 → columnsWith d (λ j. f (row j)) c ≡ columnsWith (g d) row c
   unfolding columnsWith
-  columns-exchanged d k = sum-ext _ _ c 0 (λ j _ l. is-exchanged (row j) d (small j (omega arith)) k)
+  columns-exchanged d k =
+      sum-ext _ _ c 0
+      (λ j _ l. is-where (f (row j)) d (row j) (g d) (λ e. sym (x .there (row j) (small j (omega arith)) .1) ∙ ap g e) (λ e. ap f e ∙ x .back d k .1))
 
   pub balanced-exchanged : balanced (λ j. f (row j)) c ≡ balanced row c
   balanced-exchanged =
@@ -142,7 +104,7 @@ unfolding neg3
 negates = record { there = twice; back = twice }
   where
     twice : (d : ℕ) → d < 3 → (neg3 d < 3) × (neg3 (neg3 d) ≡ d)
-    twice = by-level (λ (d : ℕ). (neg3 d < 3) × (neg3 (neg3 d) ≡ d)) (omega arith, refl) (omega arith, refl) (omega arith, refl)
+    twice = by-digit (λ (d : ℕ). (neg3 d < 3) × (neg3 (neg3 d) ≡ d)) (omega arith, refl) (omega arith, refl) (omega arith, refl)
 
 -- negation exchanges ones and twos
 pub negation-keeps-balance : (c : ℕ) (a : List ℕ) → balanced (cell c (negationOf 1 c a) 0) c ≡ balanced (cell c a 0) c

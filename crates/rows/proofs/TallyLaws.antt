@@ -1,7 +1,7 @@
 -- The columns of a row that hold a digit, counted word by word. Assumes nothing.
 use mathlib.Core.Path.{_≡_, sym, ap, ap₂, _∙_}
 use mathlib.Core.List.{List}
-use Prim.Native.Nat.{ℕ, _+_, _-_, _*_, _/_, _%_, _^_, _≤_, _<_, min}
+use Prim.Native.Nat.{ℕ, zero, suc, _+_, _-_, _*_, _/_, _%_, _^_, _≤_, _<_, min}
 use native.Mathlib.Omega.{arith}
 use lib.ListN.{getD}
 use Rattle.cells.specs.Bit.{bit}
@@ -9,7 +9,7 @@ use Rattle.cells.specs.Counts.{sum, is, count}
 use Rattle.cells.specs.Pair.{digit}
 use Rattle.cells.proofs.MaskLaws.{low-in, low-out}
 use Rattle.cells.proofs.SumLaws.{sum-more, sum-none, sum-le, sum-same, sum-ext, sum-from}
-use Rattle.cells.proofs.CountLaws.{is-le}
+use Rattle.cells.proofs.CountLaws.{is-le, is-one}
 use Rattle.buffers.specs.Buffer.{planes}
 use Rattle.buffers.proofs.SizeLaws.{planes-room, planes-tight}
 use Rattle.rows.specs.Row.{digitAt, column}
@@ -69,3 +69,17 @@ module _ (ws : List ℕ) (x q c : ℕ) (row : q ≡ planes c) where
 pub columns-le : (d : ℕ) (row : ℕ → ℕ) (c : ℕ) → columnsWith d row c ≤ c
 unfolding columnsWith
 columns-le d row c = omega (arith, sum-le (λ j. is (row j) d) (λ _. 1) (λ j. is-le (row j) d) c 0, sum-same 1 c 0)
+
+pub columns-same : (d : ℕ) (row row′ : ℕ → ℕ) (c : ℕ) → ((j : ℕ) → j < c → row j ≡ row′ j) → columnsWith d row c ≡ columnsWith d row′ c
+unfolding columnsWith
+columns-same d row row′ c e = sum-ext _ _ c 0 (λ j _ l. ap (λ (n : ℕ). is n d) (e j (omega arith)))
+
+sums-all : (row : ℕ → ℕ) (n s : ℕ) → ((j : ℕ) → j < s + n → row j < 3) → sum s n (λ j. is (row j) 0) + sum s n (λ j. is (row j) 1) + sum s n (λ j. is (row j) 2) ≡ n
+unfolding sum
+sums-all row zero s small = omega arith
+sums-all row (suc n) s small = omega (arith, is-one (row s) (small s (omega arith)), sums-all row n (suc s) (λ j l. small j (omega arith)))
+
+-- each column holds just one of the three digits
+pub columns-all : (row : ℕ → ℕ) (c : ℕ) → ((j : ℕ) → j < c → row j < 3) → columnsWith 0 row c + columnsWith 1 row c + columnsWith 2 row c ≡ c
+unfolding columnsWith
+columns-all row c small = sums-all row c 0 (λ j l. small j (omega arith))
