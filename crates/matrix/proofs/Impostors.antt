@@ -1,6 +1,6 @@
 -- Shown out by demand 2: an implementation that refuses everything, and one with a fixed answer. A table of sums of one cell, computed from
 -- the requests' own statements, says that each request has two inputs that are done and leave different things, though all but one matrix is
--- the same in both. Assumes nothing.
+-- the same in both. Besides, a tally that calls a row balanced by its ones and twos alone. Assumes nothing.
 use mathlib.Core.Path.{_≡_, refl, sym, ap, _∙_}
 use mathlib.Core.Bool.{Bool, true, false, true≢false}
 use mathlib.Core.List.{List, [], _∷_}
