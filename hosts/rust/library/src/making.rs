@@ -16,7 +16,7 @@ pub fn legal(random: &mut Random, name: Name, turn: usize) -> Call {
     }
     let balance = name == Name::Tally && turn % 3 == 1;
     if balance {
-        sizes.0 .1 = thrice(sizes.0 .1);
+        sizes.0 .1 = multiple_of_3(sizes.0 .1);
     }
     let width = width(random, name, turn);
     let mut call = made(random, name, sizes, width);
@@ -34,7 +34,7 @@ pub fn legal(random: &mut Random, name: Name, turn: usize) -> Call {
 }
 
 /// The nearest multiple of 3 below a count of columns; above it where that would have fewer words.
-fn thrice(columns: u64) -> u64 {
+fn multiple_of_3(columns: u64) -> u64 {
     let below = columns - columns % 3;
     if words_of_plane(below as usize) == words_of_plane(columns as usize) {
         below
@@ -43,7 +43,7 @@ fn thrice(columns: u64) -> u64 {
     }
 }
 
-/// A row with as many zeros as ones and twos, in any order.
+/// A row in which zeros, ones and twos are equally many, in any order.
 fn balanced(random: &mut Random, columns: usize) -> Digits {
     let mut row = Digits::zero(1, columns);
     for j in 0..columns {
