@@ -1,5 +1,5 @@
-// Rows through the tally: lengths around the ends of words, the longest that can be balanced, and each row once with all three levels and once
-// without the low one.
+// Rows through the tally, around the ends of words and up to the longest that can be balanced: each length with all three levels in turn, and without
+// the low one.
 ghost use Prim.Native.Nat.{_≤_};
 use super::show::answer;
 use super::show::value;

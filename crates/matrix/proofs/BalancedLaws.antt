@@ -1,6 +1,6 @@
 -- Balanced rows: each level has a third of the columns, and levels that change places keep it. Assumes nothing.
 use mathlib.Core.Path.{_≡_, refl, sym, ap, _∙_}
-use mathlib.Core.Bool.{Bool, true, false, and-eq-true-iff}
+use mathlib.Core.Bool.{Bool, true, false, not-eq-not, and-eq-true-iff}
 use mathlib.Core.List.{List}
 use Prim.Native.Nat.{ℕ, _*_, _/_, _%_, _<_}
 use native.Mathlib.Omega.{arith}
@@ -19,18 +19,12 @@ use Rattle.rows.proofs.TallyLaws.{columns-same, columns-all}
 use Rattle.matrix.specs.Negation.{negationOf}
 use Rattle.matrix.specs.Sum.{sumOf}
 use Rattle.matrix.specs.Tally.{balanced}
-use Rattle.matrix.proofs.FieldLaws.{add-lt, neg-lt}
-
--- ---- tests
+use Rattle.matrix.proofs.FieldLaws.{neg-lt, sum-at}
 
 same-truth : (p q : Bool) → (p ≡ true → q ≡ true) → (q ≡ true → p ≡ true) → p ≡ q
 same-truth true q f g = sym (f refl)
 same-truth false true f g = g refl
 same-truth false false f g = refl
-
-never-true : (p : Bool) → (p ≡ true → ⊥) → p ≡ false
-never-true true ne = absurd (ne refl)
-never-true false ne = refl
 
 -- ---- what a balanced row is
 
@@ -68,7 +62,7 @@ module _ (row : ℕ → ℕ) (c : ℕ) where
 
   -- a length that is no multiple of 3
   pub never-balanced : ((j : ℕ) → j < c → row j < 3) → (c % 3 ≡ 0 → ⊥) → balanced row c ≡ false
-  never-balanced small ne = never-true (balanced row c) (λ b. ne (balanced-thirds small b .0))
+  never-balanced small ne = not-eq-not {a = balanced row c} {b = false} .0 (λ b. ne (balanced-thirds small b .0))
 
 -- ---- levels that change places
 
@@ -119,10 +113,8 @@ adds-one = record { there = λ d l. (omega arith, omega arith); back = λ d l. (
 
 -- 1 added to every cell turns all three levels
 pub sum-keeps-balance : (c : ℕ) (a : List ℕ) → balanced (cell c (sumOf 1 c a (encode 1 c (λ i j. 1))) 0) c ≡ balanced (cell c a 0) c
-unfolding sumOf
 sum-keeps-balance c a =
+    let ones = encode 1 c (λ i j. 1) in
     balanced-same _ (λ j. add3 (cell c a 0 j) 1) c
-    (λ j l.
-    cell-encode 1 c (λ i j. add3 (cell c a i j) (cell c (encode 1 c (λ i j. 1)) i j)) 0 j (omega arith) l (add-lt _ _)
-    ∙ ap (add3 (cell c a 0 j)) (cell-encode 1 c (λ i j. 1) 0 j (omega arith) l (omega arith)))
+    (λ j l. sum-at 1 c a ones 0 j (omega arith) l ∙ ap (add3 (cell c a 0 j)) (cell-encode 1 c (λ i j. 1) 0 j (omega arith) l (omega arith)))
     ∙ balanced-exchanged (λ d. add3 d 1) (λ d. sub3 d 1) adds-one (cell c a 0) c (λ j _. cell-lt c a 0 j)

@@ -83,7 +83,7 @@ module _ (r c : ℕ) where
   at : (M : Matrix) → ((i j : ℕ) → M i j < 3) → (i j : ℕ) → i < r → j < c → cell c (encode r c M) i j ≡ M i j
   at M small i j h l = cell-encode r c M i j h l (small i j)
 
-  sum-at : (a b : List ℕ) (i j : ℕ) → i < r → j < c → cell c (sumOf r c a b) i j ≡ add3 (cell c a i j) (cell c b i j)
+  pub sum-at : (a b : List ℕ) (i j : ℕ) → i < r → j < c → cell c (sumOf r c a b) i j ≡ add3 (cell c a i j) (cell c b i j)
   unfolding sumOf
   sum-at a b = at (λ i j. add3 (cell c a i j) (cell c b i j)) (λ i j. add-lt _ _)
 

@@ -33,7 +33,7 @@ pub fn legal(random: &mut Random, name: Name, turn: usize) -> Call {
     call
 }
 
-/// The nearest multiple of 3 below a count of columns; above it where that would have fewer words.
+/// The last multiple of 3 up to a count of columns, or the next one where that has fewer words.
 fn multiple_of_3(columns: u64) -> u64 {
     let below = columns - columns % 3;
     if words_of_plane(below as usize) == words_of_plane(columns as usize) {
