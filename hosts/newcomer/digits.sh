@@ -13,6 +13,9 @@ products() {
     try 'two files of digits' 0 $'2 2\n2 0\n# 11 row steps\n' '' ../multiply a b
     sed -n '/^    printf /,/^    \.\/multiply a b$/s/^    //p' "$root/README.md" >"$tree/readme"
     try "README's lines" 0 $'2 2\n2 0\n# 11 row steps\n' '' bash -c 'cd .. && rm -f a b && . ./readme'
+    # A row of 1 2 1 2 adds up to 6, so that the product is 0. One block: 15 table steps, and each of four rows adds once and subtracts once.
+    sed -n '/^    yes 1212 /s/^    //p' "$root/README.md" >"$tree/readme"
+    try "README's dearest plan" 0 $'0 0 0 0\n0 0 0 0\n0 0 0 0\n0 0 0 0\n# 23 row steps\n' '' bash -c 'cd .. && . ./readme'
     # One block of width 1: one table step; then row 1 adds and row 2 subtracts. 1*2 = 2, 2*2 = 4 = 1.
     try 'a name with a space' 0 $'2\n1\n# 3 row steps\n' '' ../multiply 'c d' wide
     try 'no columns' 0 $'\n\n# 3 row steps\n' '' ../multiply 'c d' blank

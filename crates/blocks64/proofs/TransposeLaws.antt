@@ -1,6 +1,6 @@
 -- Where the bits go in a stage, and in all six. Assumes nothing.
 use mathlib.Core.Path.{_≡_, refl, sym, ap, ap₂, subst, _∙_}
-use mathlib.Core.Bool.{Bool, true, false, not}
+use mathlib.Core.Bool.{false, not}
 use mathlib.Core.List.{List, [], _∷_}
 use Prim.Native.Nat.{ℕ, _+_, _-_, _*_, _/_, _%_, _^_, _<_, min}
 use native.Mathlib.Nat.{add-mul, mul-add, one-mul}
@@ -10,24 +10,14 @@ use lib.Arith.{digits-div}
 use lib.Bits.{bitXor, differ}
 use lib.Dec.{eqb}
 use lib.ListN.{getD}
-use borrow.Author.Tests.{eqb-true}
 use Rattle.cells.specs.Any.{any}
 use Rattle.cells.specs.Bit.{bit}
-use Rattle.cells.proofs.AnyLaws.{any-at}
+use Rattle.cells.proofs.AnyLaws.{any-at, below}
 use Rattle.cells.proofs.BitLaws.{bits, bit-lt, bit-and, bit-xor}
 use Rattle.cells.proofs.WordLaws.{bit-shr, bit-mod, bit-shl-low, bit-shl-high}
 use Rattle.buffers.proofs.BufferLaws.{by-row}
 use Rattle.blocks64.specs.Exchange.{apart, lower, upper, Stage}
 use Rattle.blocks64.specs.Transpose.{Transposed}
-
--- ---- equations that antt computes, for all numbers below n
-
-not-false : (b : Bool) → not b ≡ false → b ≡ true
-not-false true h = refl
-not-false false h = sym h
-
-below : (f g : ℕ → ℕ) (n : ℕ) → any n (λ t. not (eqb (f t) (g t))) ≡ false → (t : ℕ) → t < n → f t ≡ g t
-below f g n h t l = eqb-true (f t) (g t) (not-false (eqb (f t) (g t)) (any-at (λ t. not (eqb (f t) (g t))) n h t l))
 
 -- ---- where a bit of word i at place t comes from in stage h: the bit h of i and that of t are exchanged
 

@@ -1,11 +1,13 @@
 -- Laws of a test that holds somewhere. Assumes nothing.
 use mathlib.Core.Path.{_≡_, refl, sym, ap₂}
-use mathlib.Core.Bool.{Bool, true, false, _||_, or-assoc}
+use mathlib.Core.Bool.{Bool, true, false, not, _||_, or-assoc}
 use Prim.Native.Nat.{ℕ, zero, suc, _+_, _-_, _≤_, _<_}
 use native.Mathlib.Numerals.{add-one}
 use native.Mathlib.Nat.{add-zero}
 use native.Mathlib.Decide.{decLt}
 use native.Mathlib.Omega.{arith}
+use lib.Dec.{eqb}
+use borrow.Author.Tests.{eqb-true, not-false}
 use Rattle.cells.specs.Any.{any}
 
 pub or-left : (a b : Bool) → (a || b) ≡ false → a ≡ false
@@ -67,3 +69,7 @@ any-more f m n l h =
 pub any-found : (f : ℕ → Bool) (i n : ℕ) → i < n → f i ≡ true → any n f ≡ true
 unfolding any
 any-found f i n l e = any-more f (i + 1) n (omega arith) (rw (add-one i) (or-yes (any i f) (f i) e))
+
+-- two functions that are the same at all places below n, where antt computes that
+pub below : (f g : ℕ → ℕ) (n : ℕ) → any n (λ t. not (eqb (f t) (g t))) ≡ false → (t : ℕ) → t < n → f t ≡ g t
+below f g n h t l = eqb-true (f t) (g t) (not-false (eqb (f t) (g t)) (any-at (λ t. not (eqb (f t) (g t))) n h t l))

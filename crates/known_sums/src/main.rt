@@ -6,6 +6,7 @@ mod limits;
 mod places;
 mod show;
 mod tallies;
+mod witness;
 
 fn main() {
     limits::sizes();
@@ -16,6 +17,7 @@ fn main() {
     tallies::all_levels();
     tallies::no_low_level();
     jobs::quotes();
+    witness::quotes_met();
     jobs::no_middle();
     jobs::no_columns();
     places::of_one();

@@ -14,5 +14,6 @@ pub mod Demand2
 pub mod Impostors
 pub mod JobImpostors
 pub mod JobLaws
+pub mod Witness
 pub mod Numbers
 pub mod Demand3

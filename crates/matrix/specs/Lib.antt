@@ -15,6 +15,7 @@ pub mod Record
 pub mod Misfit
 pub mod Quote
 pub mod Total
+pub mod Witness
 pub mod Opening
 pub mod Turn
 pub mod Stands

@@ -4,6 +4,7 @@ pub mod Running
 pub mod Loops
 pub mod Product
 pub mod Counts
+pub mod Witness
 pub mod Most
 pub mod Fits
 pub mod Kept

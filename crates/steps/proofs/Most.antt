@@ -1,16 +1,17 @@
 -- Theorem: how large a total can be within the sizes and widths of document 01. Assumes nothing.
-use Prim.Native.Nat.{ℕ, zero, suc, _+_, _-_, _*_, _%_, _^_, _≤_, _<_, min}
-use mathlib.Core.Path.{_≡_, refl, _∙_}
+use Prim.Native.Nat.{ℕ, zero, suc, _+_, _-_, _*_, _^_, _≤_, min}
+use mathlib.Core.Path.{_≡_}
 use native.Mathlib.Omega.{arith}
 use Rattle.cells.specs.Digit.{Matrix}
-use Rattle.cells.specs.Counts.{sum, is}
-use Rattle.cells.proofs.SumLaws.{sum-last, sum-none, sum-ext, sum-same}
+use Rattle.cells.specs.Counts.{sum}
+use Rattle.cells.proofs.SumLaws.{sum-last, sum-none}
 use Rattle.steps.specs.Matrix.{Digits}
 use Rattle.steps.specs.StepList.{blocks, blockWidth}
-use Rattle.steps.specs.Count.{quote, total, rowCount, blockCount, countAt}
-use Rattle.steps.proofs.BlockBits.{bits-none, bits-first}
+use Rattle.steps.specs.Count.{quote, total}
+use Rattle.steps.specs.Witness.{witness}
 use Rattle.steps.proofs.Loops.{width-le}
-use Rattle.steps.proofs.Counts.{total-counts, total-le}
+use Rattle.steps.proofs.Counts.{total-le}
+use Rattle.steps.proofs.Witness.{witness-digits, witness-meets}
 
 -- a block of w columns is quoted at most 2,051 steps for every two of them; a block of two columns just that
 block-most : (m w : ℕ) → m ≤ 1024 → w ≤ 8 → 2 * ((2 ^ w - 1) + m * min 2 w) ≤ 2051 * w
@@ -48,23 +49,7 @@ total-most m l k A hm hl hk = omega (arith, total-le m l k A, quote-most m l k h
 pub total-fits : (m l k : ℕ) (A : Matrix) → m ≤ 1024 → l ≤ 1024 → k ≤ 8 → total m l k A ≤ 4294967295
 total-fits m l k A hm hl hk = omega (arith, total-most m l k A hm hl hk)
 
--- ---- it is met: by ones in the even columns and twos in the odd ones
-
-abbrev inTurn : Matrix
-inTurn i j = 1 + j % 2
-
-row-met : (b i : ℕ) → rowCount inTurn (b * 2) 2 i ≡ 2
-unfolding rowCount is
-row-met b i =
-    let even : b * 2 % 2 ≡ 0 = omega arith in
-    let odd : suc (b * 2) % 2 ≡ 1 = omega arith in
-    rw (bits-first 1, bits-first 1, bits-first 2, bits-first 2, bits-none 1, bits-none 2, even, odd) refl
-
-pub most-met : Digits 1024 1024 (λ i j. 1 + j % 2) × (total 1024 1024 2 (λ i j. 1 + j % 2) ≡ 1050112)
-unfolding blocks
-most-met = ((λ i j _ _. omega arith), (total-counts 1024 1024 2 inTurn ∙ sum-ext _ (λ _. 2051) 512 0 (λ b _ h. full b (omega arith)) ∙ sum-same 2051 512 0))
-  where
-    full : (b : ℕ) → b < 512 → countAt 1024 1024 2 inTurn b ≡ 2051
-    full b h =
-        let w : blockWidth 1024 2 b ≡ 2 = unfold blockWidth in omega arith in
-        rw w (unfold blockCount in omega (arith, sum-ext (rowCount inTurn (b * 2) 2) (λ _. 2) 1024 0 (λ i _ _. row-met b i), sum-same 2 1024 0))
+-- it is met: by the witness
+pub most-met : Digits 1024 1024 witness × (total 1024 1024 2 witness ≡ 1050112)
+unfolding quote blocks blockWidth sum
+most-met = (witness-digits 1024 1024, witness-meets 1024 1024 2)

@@ -2,5 +2,6 @@ pub mod Matrix
 pub mod Step
 pub mod StepList
 pub mod Count
+pub mod Witness
 pub mod Turn
 pub mod KnownSums

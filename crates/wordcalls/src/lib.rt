@@ -16,3 +16,4 @@ pub mod transpose;
 pub mod turn;
 pub mod turns;
 pub mod unpack;
+pub mod witness;

@@ -15,10 +15,22 @@ impl Digits {
         Digits { rows, columns, cells: vec![0; rows * columns] }
     }
 
-    /// Random digits in one of four styles: uniform, sparse, all 2, all 0.
+    /// 1 in even columns and 2 in odd ones, in every row: the plan whose list of row steps is as long as its quote.
+    pub fn witness(rows: usize, columns: usize) -> Digits {
+        let mut made = Digits::zero(rows, columns);
+        for (place, cell) in made.cells.iter_mut().enumerate() {
+            *cell = 1 + (place % columns % 2) as u8;
+        }
+        made
+    }
+
+    /// Random digits in one of five styles: uniform, sparse, the witness, all 2, all 0.
     pub fn random(random: &mut Random, rows: usize, columns: usize) -> Digits {
         let mut made = Digits::zero(rows, columns);
         let style = random.below(8);
+        if style == 4 {
+            return Digits::witness(rows, columns);
+        }
         for cell in made.cells.iter_mut() {
             *cell = match style {
                 0 => 0,

@@ -3,6 +3,9 @@
 //! every buffer word for word, guard words about them too, refused or not.
 //!
 //!     library [--count N] [--seed S]
+//!     library --plans
+//!
+//! The second form prints the table of docs/QUOTES.md instead: random plans, their totals beside their quotes.
 //!
 //! Half of the calls are legal, with rows of every length up to 16 words a plane; the others have every fault that the request can have by itself,
 //! every pair of faults, and wrong cells in many places at once. It counts how often each number came from each request, and which numbers stood
@@ -24,6 +27,7 @@ mod meaning;
 mod met;
 #[path = "../../common/options.rs"]
 mod options;
+mod plans;
 #[path = "../../common/random.rs"]
 mod random;
 #[path = "../../common/refusals.rs"]
@@ -71,10 +75,19 @@ const ROUND: [Name; 27] = [
     Name::Difference,
 ];
 
+/// Sizes of the witness: around the ends of words, and with a narrow last block at most widths.
+const WITNESSED: [(usize, usize); 5] = [(1, 1), (3, 64), (5, 65), (64, 131), (9, 1023)];
+
 fn main() {
+    if std::env::args().skip(1).eq(["--plans"]) {
+        exit(plans::table(1))
+    }
     let (count, seed) = options::count_and_seed("library", ENOUGH);
     let mut met = Met::default();
     Caller { random: &mut Random::new(seed, 0), place: "the longest list", met: &mut met }.longest();
+    for (rows, columns) in WITNESSED {
+        Caller { random: &mut Random::new(seed, 0), place: "a quote that is met", met: &mut met }.quote_met(rows, columns);
+    }
     let mut made = [0; 14];
     let mut index = 0;
     while met.counts.calls < count {

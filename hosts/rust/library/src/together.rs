@@ -1,8 +1,8 @@
-//! Calls that belong together: a job in random turns to its end, a matrix packed and unpacked, and the longest list.
+//! Calls that belong together: a job in random turns to its end, a matrix packed and unpacked, quotes that are met, and the longest list.
 
 use crate::call::{Call, Name, Part, Written};
 use crate::damage::disturbed;
-use crate::digits::{product, Digits};
+use crate::digits::{product, words_of_plane, Digits};
 use crate::making::{self, total};
 use crate::met::Met;
 use crate::random::Random;
@@ -86,13 +86,31 @@ impl Caller<'_> {
         Some(())
     }
 
-    /// No total exceeds 1,050,112, and ones and twos in turn meet it. A turn at that place finds its list ended. One step further is too far: the
-    /// turn is refused, and its record stays.
+    /// The witness is packed into the words that the README gives, and its total is its quote at every width, 0 among them.
+    pub fn quote_met(&mut self, rows: usize, columns: usize) -> Option<()> {
+        let sizes = ((rows as u64, columns as u64), (0, 0));
+        let pack = Call { cells: Digits::witness(rows, columns).cells, ..making::made(self.random, Name::Pack, sizes, 0) };
+        let a = self.call(&pack)?.result;
+        if a != witness_words(rows, columns) {
+            self.differs(&pack, "the witness has other words");
+        }
+        for width in 0..=8 {
+            let quote = making::made(self.random, Name::Quote, sizes, width);
+            let quoted = self.call(&quote)?.given;
+            let total = Call { a: a.clone(), ..making::made(self.random, Name::Total, sizes, width) };
+            if self.call(&total)?.given != quoted {
+                self.differs(&total, "the total of the witness is not its quote");
+            }
+        }
+        Some(())
+    }
+
+    /// No total exceeds 1,050,112, and the witness meets it. A turn at that place finds its list ended. One step further is too far: the turn is
+    /// refused, and its record stays.
     pub fn longest(&mut self) -> Option<()> {
         const LONGEST: u64 = 1_050_112;
         let sizes = ((1024, 1024), (1024, 3));
-        let mut a = Digits::zero(1024, 1024);
-        a.cells.iter_mut().enumerate().for_each(|(place, digit)| *digit = 1 + (place % 2) as u8);
+        let a = Digits::witness(1024, 1024);
         let total = Call { a: a.words(), ..making::made(self.random, Name::Total, sizes, 2) };
         if self.call(&total)?.given != [LONGEST] {
             self.differs(&total, "the longest list has another length");
@@ -114,4 +132,11 @@ fn schoolbook(job: &Call) -> Vec<u64> {
         (Some(a), Some(b)) => product(&a, &b).words(),
         _ => Vec::new(),
     }
+}
+
+/// In every row a unit plane of ones and a sign plane of 0xaaaa.., both cut at the last column.
+fn witness_words(rows: usize, columns: usize) -> Vec<u64> {
+    let plane = |word: u64| (0..words_of_plane(columns)).map(move |p| word & (u64::MAX >> (64 - (columns - 64 * p).min(64))));
+    let row: Vec<u64> = plane(u64::MAX).chain(plane(0xaaaa_aaaa_aaaa_aaaa)).collect();
+    row.repeat(rows)
 }
