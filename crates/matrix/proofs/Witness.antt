@@ -1,6 +1,6 @@
 -- Theorem: the words of the witness are legal and hold it, and `total` answers of them what `quote` answers. Assumes nothing.
 use mathlib.Core.Path.{_≡_, refl, sym, ap, _∙_}
-use mathlib.Core.List.{List, _++_}
+use mathlib.Core.List.{List, [], _++_}
 use Prim.Native.Nat.{ℕ, _+_, _-_, _*_, _%_, _^_, _≤_, _<_, min}
 use native.Mathlib.Nat.{mod-lt}
 use native.Mathlib.Omega.{arith}
@@ -21,7 +21,7 @@ use Rattle.requests.specs.declared.Size.{Size}
 use Rattle.requests.specs.Answers.{first, left, answered}
 use Rattle.requests.specs.Faults.{faults}
 use Rattle.requests.proofs.SizeLaws.{not-over, not-unfit}
-use Rattle.requests.proofs.AnswerLaws.{finished, none-first, append-quiet}
+use Rattle.requests.proofs.AnswerLaws.{finished, none-first, append-same}
 use Rattle.steps.specs.Count.{quote, total}
 use Rattle.steps.specs.Witness.{witness}
 use Rattle.steps.proofs.Same.{steps-same}
@@ -74,7 +74,7 @@ unfolding totalTests quoteTests faults
 same-word x w =
     let L = witness-shows x .legal in
     let t = tests-legal (x .rows) (x .columns) (witnessWords x) L in
-    append-quiet (quoteTests x w) _ (none-first _ (not-unfit x (length (witnessWords x)) (L .long), (t .0, (t .1, tt))))
+    append-same (quoteTests x w) _ [] (none-first _ (not-unfit x (length (witnessWords x)) (L .long), (t .0, (t .1, tt))) ∙ sym (none-first [] tt))
 
 -- for every size and width: done alike, and refused alike
 pub witness-answers : (x : Size) (w : ℕ) → totalMeans x w (witnessWords x) ≡ quoteMeans x w

@@ -48,12 +48,11 @@ append-none [] us p e = refl
 append-none ((true, m) ∷ ts) us p e = absurd (omega (arith, ltb→lt 0 m (both (ltb 0 m) (positive ts) p .0)))
 append-none ((false, m) ∷ ts) us p e = append-none ts us (both (ltb 0 m) (positive ts) p .1) e
 
--- where none of the last ones holds, the first ones decide
-pub append-quiet : (ts us : Tests) → first us ≡ 0 → first (ts ++ us) ≡ first ts
+pub append-same : (ts us vs : Tests) → first us ≡ first vs → first (ts ++ us) ≡ first (ts ++ vs)
 unfolding first
-append-quiet [] us e = e
-append-quiet ((true, m) ∷ ts) us e = refl
-append-quiet ((false, m) ∷ ts) us e = append-quiet ts us e
+append-same [] us vs e = e
+append-same ((true, n) ∷ ts) us vs e = refl
+append-same ((false, n) ∷ ts) us vs e = append-same ts us vs e
 
 -- where none of all holds, none of the first ones does
 pub append-front : (ts us : Tests) → T (positive ts) → first (ts ++ us) ≡ 0 → first ts ≡ 0

@@ -16,22 +16,18 @@ pub witness-digits : (m l : ℕ) → Digits m l witness
 unfolding witness
 witness-digits m l i j _ _ = omega arith
 
-ones : (i j : ℕ) → is (witness i j) 1 ≡ 1 - j % 2
+levels : (i j : ℕ) → (is (witness i j) 1 ≡ 1 - j % 2) × (is (witness i j) 2 ≡ j % 2)
 unfolding witness is
-ones i j = bits (λ b. is (1 + b) 1 ≡ 1 - b) refl refl (j % 2) (omega arith)
-
-twos : (i j : ℕ) → is (witness i j) 2 ≡ j % 2
-unfolding witness is
-twos i j = bits (λ b. is (1 + b) 2 ≡ b) refl refl (j % 2) (omega arith)
+levels i j = bits (λ b. (is (1 + b) 1 ≡ 1 - b) × (is (1 + b) 2 ≡ b)) (refl, refl) (refl, refl) (j % 2) (omega arith)
 
 -- of two columns side by side one holds a 1 and the other a 2, so that a row takes as many steps as it is quoted
 row-met : (s w i : ℕ) → rowCount witness s w i ≡ min 2 w
 unfolding rowCount
 row-met s zero i = rw (bits-none 1 (witness i) s, bits-none 2 (witness i) s) refl
 row-met s (suc zero) i =
-    omega (arith, bits-first 1 (witness i) 0 s, bits-first 2 (witness i) 0 s, bits-none 1 (witness i) (suc s), bits-none 2 (witness i) (suc s), ones i s, twos i s)
+    omega (arith, bits-first 1 (witness i) 0 s, bits-first 2 (witness i) 0 s, bits-none 1 (witness i) (suc s), bits-none 2 (witness i) (suc s), levels i s)
 row-met s (suc (suc w)) i =
-    omega (arith, bits-first 1 (witness i) (suc w) s, bits-first 1 (witness i) w (suc s), bits-first 2 (witness i) (suc w) s, bits-first 2 (witness i) w (suc s), ones i s, ones i (suc s), twos i s, twos i (suc s))
+    omega (arith, bits-first 1 (witness i) (suc w) s, bits-first 1 (witness i) w (suc s), bits-first 2 (witness i) (suc w) s, bits-first 2 (witness i) w (suc s), levels i s, levels i (suc s))
 
 block-met : (m s w : ℕ) → blockCount m witness s w ≡ (2 ^ w - 1) + m * min 2 w
 unfolding blockCount

@@ -1,6 +1,6 @@
 -- What main may read and must have room for: the first 16,659 bytes of an input decide the answer, which has at most 8,338. Assumes nothing.
 use mathlib.Core.Path.{_≡_, refl, sym, ap, ap₂, _∙_}
-use mathlib.Core.Bool.{Bool, true, false}
+use mathlib.Core.Bool.{Bool, false}
 use mathlib.Core.List.{List, [], _∷_, _++_}
 use Prim.Native.Nat.{ℕ, zero, suc, _+_, _-_, _*_, _≤_, _<_}
 use native.Mathlib.Nat.{mul-le-mul-right, suc-mul}
@@ -13,7 +13,7 @@ use Rattle.cells.proofs.AnyLaws.{or-left, or-right, any-cong}
 use Rattle.buffers.specs.Buffer.{planes, wide, joined, cell, encode}
 use Rattle.requests.specs.declared.Size.{Size}
 use Rattle.requests.specs.Answers.{Tests, first}
-use Rattle.requests.proofs.AnswerLaws.{append-given, append-none, append-front, first-none}
+use Rattle.requests.proofs.AnswerLaws.{append-given, append-none, append-front, append-same, first-none}
 use Rattle.hex.specs.Line.{unframed}
 use Rattle.frames.specs.Header.{readHeaderTests}
 use Rattle.frames.specs.RowLine.{lineLong, wordsOf}
@@ -46,12 +46,6 @@ joined-cong : (n : ℕ) (f g : ℕ → List ℕ) → ((i : ℕ) → i < n → f 
 unfolding joined
 joined-cong zero f g h = refl
 joined-cong (suc n) f g h = ap₂ _++_ (h 0 (omega arith)) (joined-cong n (λ i. f (suc i)) (λ i. g (suc i)) (λ i l. h (suc i) (omega arith)))
-
-append-same : (ts us vs : Tests) → first us ≡ first vs → first (ts ++ us) ≡ first (ts ++ vs)
-unfolding first
-append-same [] us vs e = e
-append-same ((true, n) ∷ ts) us vs e = refl
-append-same ((false, n) ∷ ts) us vs e = append-same ts us vs e
 
 lines-short : (r c : ℕ) → r ≤ 128 → c ≤ 128 → r * lineLong c ≤ 8320
 unfolding lineLong wide

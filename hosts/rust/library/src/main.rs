@@ -82,7 +82,7 @@ fn main() {
     if std::env::args().skip(1).eq(["--plans"]) {
         exit(plans::table(1))
     }
-    let (count, seed) = options::count_and_seed("library", ENOUGH);
+    let (count, seed) = options::count_and_seed("library --plans, or library", ENOUGH);
     let mut met = Met::default();
     Caller { random: &mut Random::new(seed, 0), place: "the longest list", met: &mut met }.longest();
     for (rows, columns) in WITNESSED {
