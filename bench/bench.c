@@ -41,7 +41,7 @@ enum { BUFFERS = 4, SIZES = 5 };
 
 // What a case works on; a buffer of bytes is one of words, cast.
 struct work {
-    size_t size, width; // a job's width, else 0
+    size_t size, width; // a job's width; 0 is the default
     uint64_t *at[BUFFERS];
     size_t words[BUFFERS];
 };
@@ -221,7 +221,7 @@ static void whole(struct work *w)
 {
     matrix(w, 0, w->size, w->size);
     matrix(w, 1, w->size, w->size);
-    anything(w, 2, 2 * planes(w->size) << w->width);
+    anything(w, 2, 2 * planes(w->size) << matrix_width(w->size, w->size, w->width));
     anything(w, 3, matrix_words(w->size));
 }
 
@@ -235,6 +235,9 @@ static void lone_turn(struct work *w)
 
 #define JOB WORDS(0), WORDS(1), WORDS(2), WORDS(3)
 
+REQUEST(opening, w->size, w->width, JOB)
+static uint8_t record[NYUZOLAMBA_RECORD_BYTES];
+FACE(open, w->size, w->size, w->width, record, sizeof record, BYTES(0), BYTES(1), BYTES(2), BYTES(3))
 REQUEST(product, w->size, w->width, JOB)
 REQUEST(turn, w->size, w->width, 0, JOB, 0)
 
@@ -312,9 +315,9 @@ enum part { WORD, CELL, STEP };
 static const char *const part_names[] = {"word", "cell", "step"};
 
 // The size quote: as many steps as if no P and no N were 0.
-static size_t steps(size_t n, size_t width)
+static size_t steps(size_t n, size_t asked)
 {
-    size_t quote = 0;
+    size_t quote = 0, width = matrix_width(n, n, asked);
     for (size_t s = 0; s < n; s += width) {
         size_t w = n - s < width ? n - s : width;
         quote += ((size_t)1 << w) - 1 + 2 * n;
@@ -331,7 +334,7 @@ struct bench_case {
     enum part part;
     int reads; // buffers, from the first on, that `spoil` spoils
     spoil *spoil;
-    size_t width; // a job's, else 0
+    size_t width; // a job's; 0 is the default
 };
 
 #define PRODUCT whole, ours_product, c_product, STEP, 2, spoil_matrix
@@ -352,6 +355,9 @@ static const struct bench_case cases[] = {
     {"transpose-blocks", {64, 256, 1024}, 2, fill_one_to_one, ours_transpose, c_transpose_blocks, CELL, 1, spoil_matrix, 0},
     {"pack", {64, 256, 1000, 1024}, 2, fill_cells_to_one, ours_pack, c_pack, CELL, 1, spoil_cells, 0},
     {"unpack", {64, 256, 1000, 1024}, 2, fill_one_to_cells, ours_unpack, c_unpack, CELL, 1, spoil_matrix, 0},
+    {"opening-4", {8, 32}, 4, whole, ours_opening, c_opening, WORD, 2, spoil_matrix, 4},
+    {"opening-0", {8, 32}, 4, whole, ours_opening, c_opening, WORD, 2, spoil_matrix, 0},
+    {"product-0", {64, 128, 256, 512, 1024}, 2, PRODUCT, 0},
     {"product-4", {64, 128, 1024}, 2, PRODUCT, 4},
     {"product-5", {64, 128}, 2, PRODUCT, 5},
     {"product-6", {64, 128, 256}, 2, PRODUCT, 6},
@@ -361,7 +367,9 @@ static const struct bench_case cases[] = {
     {"turns-of-1000", {1024}, 1, whole, ours_turns, c_turns, STEP, 2, spoil_matrix, 8},
     {"face-check", {64}, 4, fill_one, ours_face_check, c_face_check, WORD, 1, spoil_matrix, 0},
     {"face-sum", {64}, 4, fill_two_to_one, ours_face_sum, c_face_sum, WORD, 2, spoil_matrix, 0},
-    {"face-product", {64}, 4, fill_two_to_one, ours_face_product, c_face_product, STEP, 2, spoil_matrix, 4},
+    {"face-open-4", {8, 32}, 4, whole, ours_face_open, c_face_open, WORD, 2, spoil_matrix, 4},
+    {"face-open-0", {8, 32}, 4, whole, ours_face_open, c_face_open, WORD, 2, spoil_matrix, 0},
+    {"face-product", {64}, 4, fill_two_to_one, ours_face_product, c_face_product, STEP, 2, spoil_matrix, 0},
     {"face-copies", {64}, 4, fill_two_to_one, ours_face_copies, c_face_copies, WORD, 0, NULL, 0},
 };
 

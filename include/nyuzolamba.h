@@ -35,10 +35,10 @@ extern "C" {
 #endif
 
 /* The version, counted as CHANGELOG.md says. It stands here alone: `make install` hands it to pkg-config. */
-#define NYUZOLAMBA_VERSION_MAJOR 3
+#define NYUZOLAMBA_VERSION_MAJOR 4
 #define NYUZOLAMBA_VERSION_MINOR 0
 #define NYUZOLAMBA_VERSION_PATCH 0
-#define NYUZOLAMBA_VERSION "3.0.0"
+#define NYUZOLAMBA_VERSION "4.0.0"
 
 /* What comes back: word = number + 2^8 * buffer + 2^16 * row + 2^32 * column, where the number is one of these. NYUZOLAMBA_SIGN and
  * NYUZOLAMBA_PADDING come with a place, which makes the word another value than the number: compare NYUZOLAMBA_NUMBER(word) with them. With all other
@@ -89,9 +89,9 @@ enum {
 /* Sizes. */
 enum {
     NYUZOLAMBA_LIMIT = 64,          /* most rows and most columns */
-    NYUZOLAMBA_WIDTH_DEFAULT = 4,   /* what width 0 means to nyuzolamba_open */
     NYUZOLAMBA_WIDTH_MOST = 8,      /* widest blocks */
-    NYUZOLAMBA_RECORD_BYTES = 56    /* a job's record: seven words of eight bytes */
+    NYUZOLAMBA_RECORD_BYTES = 56,   /* a job's record: seven words of eight bytes */
+    NYUZOLAMBA_COUNT_BYTES = 8      /* a width or a quote: one word */
 };
 
 /* The words of a job's record, by their place: nyuzolamba_word(record, NYUZOLAMBA_STEPS_DONE). */
@@ -109,17 +109,6 @@ enum {
 static inline size_t nyuzolamba_bytes(uint64_t rows, uint64_t columns)
 {
     return (size_t)(rows * (columns / 64 + (columns % 64 != 0)) * 16);
-}
-
-/* The bytes of a job's table: 2^width rows of as many columns as B has, also where A has fewer columns than the width. Width 0 is the default;
- * a width above NYUZOLAMBA_WIDTH_MOST has no table, and gives 0. */
-static inline size_t nyuzolamba_table_bytes(uint64_t width, uint64_t b_columns)
-{
-    if (width > NYUZOLAMBA_WIDTH_MOST)
-        return 0;
-    if (width == 0)
-        width = NYUZOLAMBA_WIDTH_DEFAULT;
-    return nyuzolamba_bytes((uint64_t)1 << width, b_columns);
 }
 
 /* Word number `index` of a buffer. */
@@ -172,8 +161,42 @@ uint64_t nyuzolamba_product(uint64_t a_rows, uint64_t a_columns, uint64_t b_rows
                             const uint8_t *b, size_t b_bytes, uint8_t *product, size_t product_bytes);
 
 /*
+ * The width that an opening means, as one word in `meant`: `width` itself from 1 to 8, and for 0 the default, which is the width from 1 to 8 with the
+ * least quote for these two counts, the smallest where several quote alike. It is 1 for A without columns or with one, and at most 7: a table at the
+ * default width never has more than 128 rows here. What `meant` held is not looked at.
+ * Order: SIZE, FACE_LIMIT, WIDTH, LENGTH (of meant, which is NYUZOLAMBA_COUNT_BYTES).
+ */
+uint64_t nyuzolamba_width(uint64_t a_rows, uint64_t a_columns, uint64_t width, uint8_t *meant, size_t meant_bytes);
+
+/*
+ * The size quote, as one word in `steps`: no job of an A of these counts has more row steps at this width, whatever its cells, and for every such size
+ * there is one with as many. Width 0 is the default, as in an opening. What `steps` held is not looked at.
+ * Order: SIZE, FACE_LIMIT, WIDTH, LENGTH (of steps, which is NYUZOLAMBA_COUNT_BYTES).
+ *
+ *     uint8_t steps[NYUZOLAMBA_COUNT_BYTES];
+ *     if (nyuzolamba_quote(2, 3, 0, steps, sizeof steps) == NYUZOLAMBA_DONE)
+ *         printf("at most %u row steps\n", (unsigned)nyuzolamba_word(steps, 0));
+ *
+ * prints
+ *
+ *     at most 9 row steps
+ */
+uint64_t nyuzolamba_quote(uint64_t a_rows, uint64_t a_columns, uint64_t width, uint8_t *steps, size_t steps_bytes);
+
+/* The bytes of a job's table: 2^w rows of as many columns as B has, where w is the width meant, also where A has fewer columns than that. It takes
+ * A's counts since the default does. Where nyuzolamba_width refuses, there is no table, and it gives 0. */
+static inline size_t nyuzolamba_table_bytes(uint64_t a_rows, uint64_t a_columns, uint64_t b_columns, uint64_t width)
+{
+    uint8_t meant[NYUZOLAMBA_COUNT_BYTES];
+    if (nyuzolamba_width(a_rows, a_columns, width, meant, sizeof meant) != NYUZOLAMBA_DONE)
+        return 0;
+    return nyuzolamba_bytes((uint64_t)1 << nyuzolamba_word(meant, 0), b_columns);
+}
+
+/*
  * Opens a job: a product of A and B to be made in turns. Sets table (nyuzolamba_table_bytes) and product to zero and fills the record: m, l, n,
- * the width meant, and 0 in the other three words. What the three held is not looked at. Opening makes no step.
+ * the width meant (nyuzolamba_width), and 0 in the other three words. What the three held is not looked at. Opening makes no step. A host that lends a
+ * table of 16 rows whatever the sizes are says width 4.
  *
  * Between opening and the last turn A, B, table, product and record stay as they are: the host keeps them, in memory or in a file, and hands
  * them in again. Nothing else ties a record to its buffers.

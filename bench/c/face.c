@@ -7,7 +7,7 @@
 #include "requests.h"
 #include "tests.h"
 
-enum { LIMIT = 64, MOST_WORDS = 2 * LIMIT, TABLE_WORDS = 2 << 4 };
+enum { LIMIT = 64, MOST_WORDS = 2 * LIMIT, TABLE_WORDS = 2 << 7, RECORD_BYTES = 56 };
 
 // One move for a whole buffer is the cheapest copy there is, and right where a word's lowest byte lies first.
 _Static_assert(__BYTE_ORDER__ == __ORDER_LITTLE_ENDIAN__, "copies are of whole buffers");
@@ -74,11 +74,40 @@ uint64_t face_product(uint64_t a_rows, uint64_t a_columns, uint64_t b_rows, uint
         return no;
     memcpy(u, a, a_bytes);
     memcpy(v, b, b_bytes);
-    no = matrix_product(a_rows, a_columns, b_columns, 4, u, a_bytes / sizeof *u, v, b_bytes / sizeof *v, table, planes(b_columns) * TABLE_WORDS, w,
-                        out_bytes / sizeof *w);
+    uint64_t width = matrix_width(a_rows, a_columns, 0);
+    no = matrix_product(a_rows, a_columns, b_columns, width, u, a_bytes / sizeof *u, v, b_bytes / sizeof *v, table,
+                        planes(b_columns) * 2 << width, w, out_bytes / sizeof *w);
     if (no == DONE)
         memcpy(out, w, out_bytes);
     return no;
+}
+
+uint64_t face_open(uint64_t a_rows, uint64_t a_columns, uint64_t b_rows, uint64_t b_columns, uint64_t width, uint8_t *record,
+                   size_t record_bytes, const uint8_t *a, size_t a_bytes, const uint8_t *b, size_t b_bytes, uint8_t *table, size_t table_bytes,
+                   uint8_t *product, size_t product_bytes)
+{
+    uint64_t u[MOST_WORDS], v[MOST_WORDS], t[2 << 8], p[MOST_WORDS];
+    if (record_bytes != RECORD_BYTES)
+        return LENGTH_WRONG;
+    uint64_t no = judge(a_rows, a_columns, b_rows, b_columns, a_columns == b_rows, a_bytes, b_bytes, product_bytes);
+    if (no != DONE && no != LENGTH_WRONG)
+        return no;
+    if (width > 8)
+        return WIDTH_WRONG;
+    width = matrix_width(a_rows, a_columns, width);
+    if (no != DONE || unfit_bytes((size_t)1 << width, b_columns, table_bytes))
+        return LENGTH_WRONG;
+    memcpy(u, a, a_bytes);
+    memcpy(v, b, b_bytes);
+    no = matrix_opening(a_rows, a_columns, b_columns, width, u, a_bytes / sizeof *u, v, b_bytes / sizeof *v, t, table_bytes / sizeof *t, p,
+                        product_bytes / sizeof *p);
+    if (no != DONE)
+        return no;
+    uint64_t words[RECORD_BYTES / 8] = {a_rows, a_columns, b_columns, width, 0, 0, 0};
+    memcpy(record, words, RECORD_BYTES);
+    memcpy(table, t, table_bytes);
+    memcpy(product, p, product_bytes);
+    return DONE;
 }
 
 uint64_t face_copies(uint64_t rows, uint64_t columns, const uint8_t *a, size_t a_bytes, const uint8_t *b, size_t b_bytes, uint8_t *out,

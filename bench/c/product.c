@@ -97,10 +97,30 @@ static uint64_t judge(uint64_t m, uint64_t l, uint64_t n, uint64_t width, const 
     return no != DONE ? no : fault(2, l, n, b);
 }
 
+static inline uint64_t block_quote(uint64_t m, uint64_t w)
+{
+    return ((uint64_t)1 << w) - 1 + m * least(w, 2);
+}
+
+uint64_t matrix_width(uint64_t m, uint64_t l, uint64_t width)
+{
+    if (width != 0)
+        return width;
+    uint64_t best = 1, steps = l * block_quote(m, 1);
+    for (uint64_t k = 2; k <= 8; k++) {
+        uint64_t quote = l / k * block_quote(m, k) + block_quote(m, l % k);
+        if (quote < steps) {
+            best = k;
+            steps = quote;
+        }
+    }
+    return best;
+}
+
 uint64_t matrix_opening(uint64_t m, uint64_t l, uint64_t n, uint64_t width, const uint64_t *a, size_t a_len, const uint64_t *b, size_t b_len,
                         uint64_t *table, size_t table_len, uint64_t *product, size_t product_len)
 {
-    uint64_t no = judge(m, l, n, width == 0 ? 4 : width, a, a_len, b, b_len, table_len, product_len);
+    uint64_t no = judge(m, l, n, matrix_width(m, l, width), a, a_len, b, b_len, table_len, product_len);
     if (no != DONE)
         return no;
     memset(table, 0, table_len * sizeof *table);
@@ -111,10 +131,11 @@ uint64_t matrix_opening(uint64_t m, uint64_t l, uint64_t n, uint64_t width, cons
 uint64_t matrix_product(uint64_t m, uint64_t l, uint64_t n, uint64_t width, const uint64_t *a, size_t a_len, const uint64_t *b, size_t b_len,
                         uint64_t *table, size_t table_len, uint64_t *product, size_t product_len)
 {
+    width = matrix_width(m, l, width);
     uint64_t no = matrix_opening(m, l, n, width, a, a_len, b, b_len, table, table_len, product, product_len);
     if (no != DONE)
         return no;
-    struct job job = {m, l, n, width == 0 ? 4 : width, a, b, table, product};
+    struct job job = {m, l, n, width, a, b, table, product};
     for (size_t s = 0; s < l; s += job.width) {
         size_t w = least(job.width, l - s);
         table_part(&job, s, w, NULL);

@@ -11,5 +11,8 @@ typedef uint64_t job_continued(uint64_t m, uint64_t l, uint64_t n, uint64_t widt
                                const uint64_t *b, size_t b_len, uint64_t *table, size_t table_len, uint64_t *product, size_t product_len,
                                uint32_t budget);
 
+// The width meant: 0 is the one from 1 to 8 that quotes least, the smallest where several do.
+uint64_t matrix_width(uint64_t m, uint64_t l, uint64_t width);
+
 job_begun matrix_product, matrix_opening;
 job_continued matrix_turn;

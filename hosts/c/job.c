@@ -130,10 +130,22 @@ static void check(const struct job *job, unsigned which, const struct digits *se
         refused(job, "a matrix", which, word);
 }
 
-/* The width that a request means. */
-static unsigned meant(unsigned width)
+/* The width that a site's request means. */
+static unsigned meant(const struct digits *a, unsigned width)
 {
-    return width == 0 ? NYUZOLAMBA_WIDTH_DEFAULT : width;
+    return width == 0 ? own_default_width(a->rows, a->columns) : width;
+}
+
+/* Ends the program unless the library means the same width and quotes as many steps. */
+static void check_quote(const struct job *job, const struct digits *a, unsigned width)
+{
+    uint8_t given[2][NYUZOLAMBA_COUNT_BYTES];
+    if (nyuzolamba_width(a->rows, a->columns, width, given[0], sizeof given[0]) != NYUZOLAMBA_DONE ||
+        nyuzolamba_word(given[0], 0) != meant(a, width))
+        fail("site %llu: another width is meant", (unsigned long long)job->site);
+    if (nyuzolamba_quote(a->rows, a->columns, width, given[1], sizeof given[1]) != NYUZOLAMBA_DONE ||
+        nyuzolamba_word(given[1], 0) != own_quote(a->rows, a->columns, meant(a, width)))
+        fail("site %llu: another quote is made", (unsigned long long)job->site);
 }
 
 void job_open(struct job *job, uint64_t seed, uint64_t site)
@@ -149,7 +161,7 @@ void job_open(struct job *job, uint64_t seed, uint64_t site)
     at[RECORD] = buffer_new(NYUZOLAMBA_RECORD_BYTES);
     at[A] = buffer_new(nyuzolamba_bytes(a.rows, a.columns));
     at[B] = buffer_new(nyuzolamba_bytes(b.rows, b.columns));
-    at[TABLE] = buffer_new(nyuzolamba_table_bytes(width, b.columns));
+    at[TABLE] = buffer_new(nyuzolamba_table_bytes(a.rows, a.columns, b.columns, width));
     at[PRODUCT] = buffer_new(nyuzolamba_bytes(a.rows, b.columns));
     own_pack(&a, at[A].start);
     own_pack(&b, at[B].start);
@@ -157,6 +169,7 @@ void job_open(struct job *job, uint64_t seed, uint64_t site)
     memcpy(copy[1], at[B].start, at[B].bytes);
     check(job, A, &a);
     check(job, B, &b);
+    check_quote(job, &a, width);
     word = nyuzolamba_open(a.rows, a.columns, b.rows, b.columns, width, at[RECORD].start, at[RECORD].bytes, at[A].start, at[A].bytes,
                            at[B].start, at[B].bytes, at[TABLE].start, at[TABLE].bytes, at[PRODUCT].start, at[PRODUCT].bytes);
     if (word != NYUZOLAMBA_DONE)
@@ -201,7 +214,7 @@ int job_stands(const struct job *job, uint64_t seed)
     uint64_t total;
     site_request(seed, job->site, &a, &b, &width);
     if (nyuzolamba_word(record, NYUZOLAMBA_A_ROWS) != a.rows || nyuzolamba_word(record, NYUZOLAMBA_MIDDLE) != a.columns ||
-        nyuzolamba_word(record, NYUZOLAMBA_B_COLUMNS) != b.columns || nyuzolamba_word(record, NYUZOLAMBA_JOB_WIDTH) != meant(width))
+        nyuzolamba_word(record, NYUZOLAMBA_B_COLUMNS) != b.columns || nyuzolamba_word(record, NYUZOLAMBA_JOB_WIDTH) != meant(&a, width))
         return 0;
     own_pack(&a, bytes);
     if (memcmp(bytes, job->buffer[A].start, job->buffer[A].bytes) != 0)
@@ -209,7 +222,7 @@ int job_stands(const struct job *job, uint64_t seed)
     own_pack(&b, bytes);
     if (memcmp(bytes, job->buffer[B].start, job->buffer[B].bytes) != 0)
         return 0;
-    total = own_total(&a, meant(width));
+    total = own_total(&a, meant(&a, width));
     return job_steps(job) <= total && job->finished == (job->turns > 0 && job_steps(job) == total);
 }
 
@@ -230,7 +243,7 @@ uint64_t job_total(const struct job *job, uint64_t seed)
     struct digits a, b;
     unsigned width;
     site_request(seed, job->site, &a, &b, &width);
-    return own_total(&a, meant(width));
+    return own_total(&a, meant(&a, width));
 }
 
 /* ---- the job's file: words and buffers, then a check sum over all of it */
@@ -350,7 +363,7 @@ static int lengths_fit(const uint8_t *bytes, size_t size)
     wanted[RECORD] = NYUZOLAMBA_RECORD_BYTES;
     wanted[A] = nyuzolamba_bytes(m, l);
     wanted[B] = nyuzolamba_bytes(l, n);
-    wanted[TABLE] = nyuzolamba_table_bytes(width, n);
+    wanted[TABLE] = nyuzolamba_table_bytes(m, l, n, width);
     wanted[PRODUCT] = nyuzolamba_bytes(m, n);
     for (i = 0; i < BUFFERS; i++) {
         if (nyuzolamba_word(bytes, 5 + i) != wanted[i])

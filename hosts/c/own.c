@@ -61,6 +61,26 @@ void own_product(const struct digits *a, const struct digits *b, struct digits *
         }
 }
 
+uint64_t own_quote(unsigned rows, unsigned columns, unsigned width)
+{
+    uint64_t steps = 0;
+    unsigned first;
+    for (first = 0; first < columns; first += width) {
+        unsigned w = columns - first < width ? columns - first : width;
+        steps += ((uint64_t)1 << w) - 1 + (uint64_t)rows * (w < 2 ? w : 2);
+    }
+    return steps;
+}
+
+unsigned own_default_width(unsigned rows, unsigned columns)
+{
+    unsigned width, best = 1;
+    for (width = 2; width <= 8; width++)
+        if (own_quote(rows, columns, width) < own_quote(rows, columns, best))
+            best = width;
+    return best;
+}
+
 uint64_t own_total(const struct digits *a, unsigned width)
 {
     uint64_t steps = 0;

@@ -24,6 +24,10 @@ void own_pack(const struct digits *m, uint8_t *bytes);
 
 void own_product(const struct digits *a, const struct digits *b, struct digits *product);
 
+/* The size quote, block by block, and the width from 1 to 8 that has the least one, the smallest where several have. */
+uint64_t own_quote(unsigned rows, unsigned columns, unsigned width);
+unsigned own_default_width(unsigned rows, unsigned columns);
+
 /* The length of the list of row steps, counted step by step. */
 uint64_t own_total(const struct digits *a, unsigned width);
 

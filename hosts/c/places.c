@@ -83,6 +83,8 @@ static const struct example EXAMPLES[] = {
     {PRODUCT, 10, 62, 3, {{A, 9, 61, SIGN}}, MISFIT, WORD(00000000, 0000, 00, 02), 2, 0, 0, 0},
     {OPEN, 10, 62, 3, {{A, 0, 62, UNIT}}, WIDTH_9, WORD(00000000, 0000, 00, 03), 3, 0, 0, 0},
     {OPEN, 10, 62, 3, {{A, 0, 0, SIGN}}, RECORD_SHORT, WORD(00000000, 0000, 00, 04), 4, 0, 0, 0},
+    /* Width 0 of 10 by 62 is not 8, whose table is lent here. */
+    {OPEN, 10, 62, 3, {{A, 0, 0, SIGN}}, WIDTH_0, WORD(00000000, 0000, 00, 04), 4, 0, 0, 0},
     {TURN, 10, 62, 3, {{T, 0, 0, SIGN}}, WIDTH_0, WORD(00000000, 0000, 00, 03), 3, 0, 0, 0},
     {TURN, 10, 62, 3, {{P, 0, 0, SIGN}}, A_SHORT, WORD(00000000, 0000, 00, 04), 4, 0, 0, 0},
     {TURN, 10, 62, 3, {{P, 0, 0, SIGN}}, ROWS_65, WORD(00000000, 0000, 00, 0b), 11, 0, 0, 0},

@@ -10,12 +10,12 @@ products() {
     printf '%01025d\n' 0 >row1025
     input=/dev/null
     # 1*1 + 2*2 + 0*1 = 5, 1*0 + 2*1 + 0*1 = 2; 0*1 + 2*2 + 1*1 = 5, 0*0 + 2*1 + 1*1 = 3: modulo 3 these are 2 2 and 2 0.
-    try 'two files of digits' 0 $'2 2\n2 0\n# 11 row steps\n' '' ../multiply a b
+    try 'two files of digits' 0 $'2 2\n2 0\n# 7 row steps\n' '' ../multiply a b
     sed -n '/^    printf /,/^    \.\/multiply a b$/s/^    //p' "$root/README.md" >"$tree/readme"
-    try "README's lines" 0 $'2 2\n2 0\n# 11 row steps\n' '' bash -c 'cd .. && rm -f a b && . ./readme'
-    # A row of 1 2 1 2 adds up to 6, so that the product is 0. One block: 15 table steps, and each of four rows adds once and subtracts once.
+    try "README's lines" 0 $'2 2\n2 0\n# 7 row steps\n' '' bash -c 'cd .. && rm -f a b && . ./readme'
+    # A row of 1 2 1 2 adds up to 6, so that the product is 0. Width 1 quotes least: four blocks, and in each one table step and one step for each row.
     sed -n '/^    yes 1212 /s/^    //p' "$root/README.md" >"$tree/readme"
-    try "README's dearest plan" 0 $'0 0 0 0\n0 0 0 0\n0 0 0 0\n0 0 0 0\n# 23 row steps\n' '' bash -c 'cd .. && . ./readme'
+    try "README's dearest plan" 0 $'0 0 0 0\n0 0 0 0\n0 0 0 0\n0 0 0 0\n# 20 row steps\n' '' bash -c 'cd .. && . ./readme'
     # One block of width 1: one table step; then row 1 adds and row 2 subtracts. 1*2 = 2, 2*2 = 4 = 1.
     try 'a name with a space' 0 $'2\n1\n# 3 row steps\n' '' ../multiply 'c d' wide
     try 'no columns' 0 $'\n\n# 3 row steps\n' '' ../multiply 'c d' blank
@@ -24,7 +24,7 @@ products() {
     try '129 columns' 1 $'refused 0b\n' 'refused 0b: *128*' ../multiply wide row129
     try '1,025 columns' 1 $'refused 01\n' 'refused 01: *1,024*' ../multiply wide row1025
     input=b
-    try 'digits from standard input' 0 $'2 2\n2 0\n# 11 row steps\n' '' ../multiply a -
+    try 'digits from standard input' 0 $'2 2\n2 0\n# 7 row steps\n' '' ../multiply a -
     input=/dev/null
     try 'digits that cannot be read' 2 '' '*a b: line 1, column 2: *' bash -c 'printf "1x\n" >"a b" && ../multiply "a b" b'
     try 'a file that is not there' 2 '' '*none: No such file*' ../multiply a none
@@ -61,7 +61,7 @@ there_and_back() {
     try 'two rows of no columns' 0 $'00020000\n\n\n' '' ../digits to-text
     printf '%s' "$product" >text
     input=text
-    try 'what multiply prints' 0 $'2 2\n2 0\n# 11 row steps\n' '' ../digits to-digits
+    try 'what multiply prints' 0 $'2 2\n2 0\n# 7 row steps\n' '' ../digits to-digits
     printf 'refused 05\n' >text
     try 'a refusal' 1 $'refused 05\n' 'refused 05: a cell has sign without unit' ../digits to-digits
     printf '00000005\n' >text

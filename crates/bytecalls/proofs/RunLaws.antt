@@ -23,10 +23,10 @@ use Rattle.bytecalls.specs.Run.{Run}
 
 -- after the first i budgets
 abbrev pub stood : Size → ℕ → List ℕ → List ℕ → ℕ → ℕ
-stood x w a budgets i = led budgets (totalOf x (meant w) (wordsIn a)) i
+stood x w a budgets i = led budgets (totalOf x (meant x w) (wordsIn a)) i
 
 abbrev pub StoodAt : Size → Size → ℕ → List ℕ → List ℕ → List ℕ → ℕ → Held → Type 0
-StoodAt x y w a b budgets i s = Stands x y (meant w) a b (stood x w a budgets i) (s .0) (s .1 .0) (s .1 .1)
+StoodAt x y w a b budgets i s = Stands x y (meant x w) a b (stood x w a budgets i) (s .0) (s .1 .0) (s .1 .1)
 
 module _ (x y : Size) (w : ℕ) (job a b t p budgets : List ℕ) (f : ℕ) (s₀ : Held) (opened : (f, s₀) ≡ openFace x y w job a b t p) (ok : f ≡ 0) where
   done : _≡_ {A = ℕ × Held} (0, s₀) (openFace x y w job a b t p)
@@ -34,19 +34,19 @@ module _ (x y : Size) (w : ℕ) (job a b t p budgets : List ℕ) (f : ℕ) (s₀
 
   pub run-start : StoodAt x y w a b budgets 0 s₀
   run-start =
-      rw (← led-none budgets (totalOf x (meant w) (wordsIn a))) (started x y w job a b t p (s₀ .0) (s₀ .1 .0) (s₀ .1 .1) done)
+      rw (← led-none budgets (totalOf x (meant x w) (wordsIn a))) (started x y w job a b t p (s₀ .0) (s₀ .1 .0) (s₀ .1 .1) done)
 
   pub run-next : (i n : ℕ) (s s₁ : Held) → i < length budgets → StoodAt x y w a b budgets i s → (n, s₁) ≡ turnFace (s .0) a b (s .1 .0) (s .1 .1) (getD budgets i 0)
       → (n ≡ 0) × StoodAt x y w a b budgets (i + 1) s₁
   run-next i n s s₁ h S says =
       let T = turn-goes-on x y w job a b t p (s₀ .0) (s₀ .1 .0) (s₀ .1 .1) done (stood x w a budgets i) (getD budgets i 0) n s s₁ (omega arith) S says in
-      (T .0, subst (λ (d : ℕ). Stands x y (meant w) a b d (s₁ .0) (s₁ .1 .0) (s₁ .1 .1)) (led-more budgets (totalOf x (meant w) (wordsIn a)) i h) (T .1))
+      (T .0, subst (λ (d : ℕ). Stands x y (meant x w) a b d (s₁ .0) (s₁ .1 .0) (s₁ .1 .1)) (led-more budgets (totalOf x (meant x w) (wordsIn a)) i h) (T .1))
 
   run-end : (i : ℕ) (s : Held) → length budgets ≤ i → StoodAt x y w a b budgets i s → Run x y w a b budgets s
   unfolding schoolbook
   run-end i s h S =
       let all : take i budgets ≡ budgets = take-all i budgets h in
-      let whole : Stands x y (meant w) a b (min (allBudgets budgets) (totalOf x (meant w) (wordsIn a))) (s .0) (s .1 .0) (s .1 .1) = rw all at S in
+      let whole : Stands x y (meant x w) a b (min (allBudgets budgets) (totalOf x (meant x w) (wordsIn a))) (s .0) (s .1 .0) (s .1 .1) = rw all at S in
       let fit = F x y w job a b t p (s₀ .0) (s₀ .1 .0) (s₀ .1 .1) done in
       let legal = facts x y w job a b t p (s₀ .0) (s₀ .1 .0) (s₀ .1 .1) done in
       record {

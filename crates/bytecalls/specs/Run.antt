@@ -13,6 +13,6 @@ use Rattle.cface.specs.JobShows.{Reached}
 
 -- the job stands at the smaller of the budgets' sum and the list's length; where they reach it, the product is the schoolbook one
 pub record Run (x y : Size) (w : ℕ) (a b budgets : List ℕ) (o : Held) : Type 0 where
-  pub reached : Reached x y (meant w) a b (min (allBudgets budgets) (totalOf x (meant w) (wordsIn a))) o
-  pub end : totalOf x (meant w) (wordsIn a) ≤ allBudgets budgets
+  pub reached : Reached x y (meant x w) a b (min (allBudgets budgets) (totalOf x (meant x w) (wordsIn a))) o
+  pub end : totalOf x (meant x w) (wordsIn a) ≤ allBudgets budgets
       → ShowsBytes (x .rows) (y .columns) (schoolbook (x .columns) (cell (x .columns) (wordsIn a)) (cell (y .columns) (wordsIn b))) (o .1 .1)

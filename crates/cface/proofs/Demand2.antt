@@ -2,24 +2,25 @@
 -- and no other bytes do; the record's words are those of the new job. Assumes nothing.
 use mathlib.Core.Path.{_≡_}
 use mathlib.Core.Bool.{false}
-use mathlib.Core.List.{List}
-use Prim.Native.Nat.{ℕ, _+_, _*_, _%_, _^_, _≤_}
+use mathlib.Core.List.{List, [], _∷_}
+use Prim.Native.Nat.{ℕ, zero, suc, _+_, _*_, _%_, _^_, _≤_, _<_}
 use native.Mathlib.Omega.{arith}
 use lib.Dec.{ltb, eqb}
 use lib.ListN.{length}
 use borrow.Author.Tests.{ltb-false}
 use Rattle.cells.specs.Digit.{add3, sub3, neg3}
 use Rattle.cells.proofs.AnyLaws.{or-left, or-right}
-use Rattle.buffers.specs.Buffer.{cell}
+use Rattle.buffers.specs.Buffer.{cell, Words}
 use Rattle.buffers.proofs.SizeLaws.{cell-lt}
 use Rattle.requests.specs.declared.Size.{Size}
 use Rattle.requests.specs.Exact.{None}
 use Rattle.requests.specs.Faults.{faults}
+use Rattle.requests.proofs.SizeLaws.{over-rows, over-columns}
 use Rattle.steps.specs.Matrix.{schoolbook}
-use Rattle.steps.specs.Count.{total}
+use Rattle.steps.specs.Count.{quote, total}
 use Rattle.steps.specs.Turn.{made, turn}
 use Rattle.steps.proofs.Running.{run-digits}
-use Rattle.steps.proofs.Most.{total-most}
+use Rattle.steps.proofs.Most.{quote-most, total-most}
 use Rattle.walk.specs.Ran.{found}
 use Rattle.matrix.specs.declared.job.Job.{Job}
 use Rattle.matrix.specs.Job.{meant, totalOf}
@@ -31,7 +32,7 @@ use Rattle.matrix.specs.Turn.{sizeA, sizeB, leftOf, madeOf, onJob, turnedOf}
 use Rattle.matrix.specs.Record.{recordOf}
 use Rattle.matrix.proofs.FieldLaws.{add-lt, sub-lt, neg-lt}
 use Rattle.matrix.proofs.JobLaws.{meant-le}
-use Rattle.wordbytes.specs.Bytes.{wordsIn}
+use Rattle.wordbytes.specs.Bytes.{wordsIn, bytesOf}
 use Rattle.wordbytes.specs.ShowsBytes.{ShowsBytes}
 use Rattle.wordbytes.proofs.ByteLaws.{words-bytes, bytes-length}
 use Rattle.wordbytes.proofs.ShowsBytesLaws.{encode-shows-bytes}
@@ -39,13 +40,16 @@ use Rattle.cface.specs.Limit.{above}
 use Rattle.cface.specs.Sum.{sumFace}
 use Rattle.cface.specs.Difference.{differenceFace}
 use Rattle.cface.specs.Negation.{negationFace}
+use Rattle.cface.specs.Count.{ShowsCount, countTests}
+use Rattle.cface.specs.Width.{widthFace}
+use Rattle.cface.specs.Quote.{quoteFace}
 use Rattle.cface.specs.Product.{productFace}
 use Rattle.cface.specs.Open.{openSizes, openFaceTests, openFace}
 use Rattle.cface.specs.Turn.{turnSizes, turnFaceTests, turnFace}
 use Rattle.cface.specs.Stands.{Held}
 use Rattle.cface.specs.JobShows.{OpenedJob, foundIn, TurnedJob}
 use Rattle.cface.proofs.LimitLaws.{above-rows, above-columns}
-use Rattle.cface.proofs.Refusals.{sum-exact, difference-exact, negation-exact, product-exact, open-exact, turn-exact}
+use Rattle.cface.proofs.Refusals.{sum-exact, difference-exact, negation-exact, product-exact, width-exact, quote-exact, open-exact, turn-exact}
 use Rattle.cface.proofs.Turns.{record-words}
 
 module _ (x y : Size) (a b out : List ℕ) (r : ℕ) (o : List ℕ) where
@@ -72,6 +76,32 @@ unfolding negationOf neg3
 negation-right s a out r o says z =
     rw (negation-exact s a out r o says .right z) (encode-shows-bytes (s .rows) (s .columns) (λ i j. neg3 (cell (s .columns) (wordsIn a) i j)) (λ i j h l. neg-lt (cell (s .columns) (wordsIn a) i j)))
 
+-- ---- counts
+
+count-words : (n : ℕ) → n < 2 ^ 64 → Words (n ∷ [])
+count-words n h zero = h
+count-words n h (suc k) = omega arith
+
+count-shown : (n : ℕ) → n < 2 ^ 64 → ShowsCount n (bytesOf (n ∷ []))
+count-shown n h = (bytes-length (n ∷ []), words-bytes (n ∷ []) (count-words n h))
+
+module _ (x : Size) (w : ℕ) (out : List ℕ) (r : ℕ) (o : List ℕ) where
+  -- the width meant
+  pub width-right : (r, o) ≡ widthFace x w out → r ≡ 0 → ShowsCount (meant x w) o
+  unfolding countTests
+  width-right says z =
+      let E = width-exact x w out r o says in
+      let none : None (countTests x w (length out)) = E .numbered .done .0 z in
+      rw (E .right z) (count-shown (meant x w) (omega (arith, meant-le x w (ltb-false 8 w (none .1 .1 .0)))))
+
+  pub quote-right : (r, o) ≡ quoteFace x w out → r ≡ 0 → ShowsCount (quote (x .rows) (x .columns) (meant x w)) o
+  unfolding countTests
+  quote-right says z =
+      let E = quote-exact x w out r o says in
+      let none : None (countTests x w (length out)) = E .numbered .done .0 z in
+      let most = quote-most (x .rows) (x .columns) (meant x w) (over-rows x (none .0)) (over-columns x (none .0)) (meant-le x w (ltb-false 8 w (none .1 .1 .0))) in
+      rw (E .right z) (count-shown (quote (x .rows) (x .columns) (meant x w)) (omega (arith, most)))
+
 -- ---- jobs
 
 -- the record, and zero in table and product
@@ -85,8 +115,8 @@ open-right x y w job a b t p r o says z =
     let hw : w ≤ 8 = ltb-false 8 w (none .1 .1 .1 .1 .0) in
     rw (E .right z) (record {
       long = bytes-length (recordOf (newJob x y w) 0 false);
-      words = words-bytes _ (record-words (newJob x y w) 0 false (omega (arith, above-rows x hx)) (omega (arith, above-columns x hx)) (omega (arith, above-columns y hy)) (omega (arith, meant-le w hw)) (omega arith) (omega arith));
-      table = encode-shows-bytes (2 ^ meant w) (y .columns) (λ i j. 0) (λ i j _ _. omega arith);
+      words = words-bytes _ (record-words (newJob x y w) 0 false (omega (arith, above-rows x hx)) (omega (arith, above-columns x hx)) (omega (arith, above-columns y hy)) (omega (arith, meant-le x w hw)) (omega arith) (omega arith));
+      table = encode-shows-bytes (2 ^ meant x w) (y .columns) (λ i j. 0) (λ i j _ _. omega arith);
       product = encode-shows-bytes (x .rows) (y .columns) (λ i j. 0) (λ i j _ _. omega arith);
     })
 

@@ -21,7 +21,8 @@ use Rattle.requests.proofs.ShownOut.{ShownOut, shown-out, AnswerShownOut, answe
 use Rattle.steps.specs.Matrix.{schoolbook}
 use Rattle.steps.specs.Step.{lowestBit, cleared, put, apply, run, opening}
 use Rattle.steps.specs.StepList.{unless0, many, each, tableSteps, rowSteps, blockSteps, blocks, blockWidth, steps}
-use Rattle.steps.specs.Count.{total}
+use Rattle.steps.specs.Count.{quote, total}
+use Rattle.steps.specs.Width.{better, cheapest, defaultWidth}
 use Rattle.steps.specs.Turn.{due, made, turn}
 use Rattle.walk.specs.Ran.{found}
 use Rattle.matrix.specs.Job.{meant}
@@ -37,6 +38,9 @@ use Rattle.cface.specs.Pair.{pairSizes, pairFaceTests}
 use Rattle.cface.specs.Sum.{sumFace}
 use Rattle.cface.specs.Difference.{differenceFace}
 use Rattle.cface.specs.Negation.{negationSizes, negationFaceTests, negationFace}
+use Rattle.cface.specs.Count.{unfitCount, countTests}
+use Rattle.cface.specs.Width.{widthFace}
+use Rattle.cface.specs.Quote.{quoteFace}
 use Rattle.cface.specs.Product.{productSizes, productFaceTests, productFace}
 use Rattle.cface.specs.Record.{unfitRecord}
 use Rattle.cface.specs.Open.{openSizes, openFaceTests, openFace}
@@ -44,6 +48,9 @@ use Rattle.cface.specs.Turn.{turnSizes, turnFaceTests, turnFace}
 
 abbrev one : Size
 one = record { rows = 1; columns = 1 }
+
+abbrev square : Size
+square = record { rows = 8; columns = 8 }
 
 abbrev none : Size
 none = record { rows = 0; columns = 0 }
@@ -85,17 +92,21 @@ pub record Sums : Type 0 where
   pub subtracted : (differenceFace one one zero1 one1 zero1 ≡ (0, two1)) × (differenceFace one one one1 one1 zero1 ≡ (0, zero1))
   pub negated : (negationFace one one1 zero1 ≡ (0, two1)) × (negationFace one zero1 zero1 ≡ (0, zero1))
   pub multiplied : (productFace one one two1 one1 zero1 ≡ (0, two1)) × (productFace one one zero1 one1 zero1 ≡ (0, zero1))
+  pub chosen : (widthFace one 0 (eight 0 []) ≡ (0, eight 1 [])) × (widthFace square 0 (eight 0 []) ≡ (0, eight 4 []))
+  pub quoted : (quoteFace one 0 (eight 0 []) ≡ (0, eight 2 [])) × (quoteFace square 0 (eight 0 []) ≡ (0, eight 62 []))
   pub opened : (openFace none none 1 (job 0 0 0 0) [] [] [] [] ≡ (0, (job 0 1 0 0, ([], [])))) × (openFace none none 2 (job 0 0 0 0) [] [] [] [] ≡ (0, (job 0 2 0 0, ([], []))))
   pub moved : (turnFace (job 1 1 0 0) two1 one1 newTable zero1 2 ≡ (0, (job 1 1 2 1, (madeTable, two1)))) × (turnFace (job 1 1 0 0) zero1 one1 newTable zero1 2 ≡ (0, (job 1 1 1 1, (madeTable, zero1))))
 
 pub sums : Sums
-unfolding checkFace checkFaceTests checkSizes sumFace sumOf differenceFace differenceOf pairFaceTests pairSizes negationFace negationFaceTests negationSizes negationOf productFace productFaceTests productSizes openFace openFaceTests openSizes turnFace turnFaceTests turnSizes unfitRecord jobIn recordOf unfitBytes misfitBytes above wordsIn bytesOf valueOf byteOf turnedOf turn made meant due found schoolbook sum total steps blocks blockWidth blockSteps rowSteps tableSteps each many unless0 bitsOf lowestBit cleared put apply run opening answered first left over unequal faults placed stray padded strayAt paddedAt least any unit sign cell bitAt bit planes wide words encode joined plane tab wordOf unitOf signOf add3 sub3 neg3 is trailingZeros
+unfolding checkFace checkFaceTests checkSizes sumFace sumOf differenceFace differenceOf pairFaceTests pairSizes negationFace negationFaceTests negationSizes negationOf productFace productFaceTests productSizes openFace openFaceTests openSizes turnFace turnFaceTests turnSizes unfitRecord jobIn recordOf unfitBytes misfitBytes above wordsIn bytesOf valueOf byteOf turnedOf turn made countTests unfitCount widthFace quoteFace meant defaultWidth cheapest better quote due found schoolbook sum total steps blocks blockWidth blockSteps rowSteps tableSteps each many unless0 bitsOf lowestBit cleared put apply run opening answered first left over unequal faults placed stray padded strayAt paddedAt least any unit sign cell bitAt bit planes wide words encode joined plane tab wordOf unitOf signOf add3 sub3 neg3 is trailingZeros
 sums = record {
   checked = (refl, refl);
   added = (refl, refl);
   subtracted = (refl, refl);
   negated = (refl, refl);
   multiplied = (refl, refl);
+  chosen = (refl, refl);
+  quoted = (refl, refl);
   opened = (refl, refl);
   moved = (refl, refl);
 }
@@ -121,6 +132,17 @@ face-negation-shown-out = shown-out itself _ (one, zero1) one1 zero1 two1 zero1 
 
 pub face-product-shown-out : ShownOut {X = Size × Size × List ℕ × List ℕ} {I = List ℕ} {S = List ℕ} itself (λ x a. productFace (x .0) (x .1) a (x .2) (x .3))
 face-product-shown-out = shown-out itself _ (one, one, one1, zero1) two1 zero1 two1 zero1 (sums .multiplied .0) (sums .multiplied .1) two-zero
+
+-- of the default too: it looks at the sizes
+pub face-width-shown-out : ShownOut {X = ℕ × List ℕ} {I = Size} {S = List ℕ} itself (λ x s. widthFace s (x .0) (x .1))
+face-width-shown-out =
+    shown-out itself _ (0, eight 0 []) one square (eight 1 []) (eight 4 []) (sums .chosen .0) (sums .chosen .1)
+    (λ e. let z : _≡_ {A = ℕ} 1 4 = ap (λ (l : List ℕ). getD l 0 0) e in omega arith)
+
+pub face-quote-shown-out : ShownOut {X = ℕ × List ℕ} {I = Size} {S = List ℕ} itself (λ x s. quoteFace s (x .0) (x .1))
+face-quote-shown-out =
+    shown-out itself _ (0, eight 0 []) one square (eight 2 []) (eight 62 []) (sums .quoted .0) (sums .quoted .1)
+    (λ e. let z : _≡_ {A = ℕ} 2 62 = ap (λ (l : List ℕ). getD l 0 0) e in omega arith)
 
 pub face-open-shown-out : ShownOut {X = Size × Size × List ℕ × List ℕ × List ℕ × List ℕ × List ℕ} {I = ℕ} {S = Left} itself
     (λ x w. openFace (x .0) (x .1) w (x .2) (x .3) (x .4) (x .5) (x .6))

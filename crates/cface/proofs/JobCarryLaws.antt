@@ -2,11 +2,11 @@
 use mathlib.Core.Path.{_≡_, refl, sym, ap, _∙_}
 use mathlib.Core.Bool.{Bool, false, not, _||_}
 use mathlib.Core.List.{List, [], _∷_}
-use Prim.Native.Nat.{ℕ, _*_, _≤_, _/_}
+use Prim.Native.Nat.{ℕ, _*_, _/_, _^_, _≤_, _<_}
 use native.Mathlib.Omega.{arith}
 use lib.Dec.{ltb, eqb}
 use lib.ListN.{length}
-use borrow.Author.Tests.{ltb-false, ne-eqb, eqb-true, not-false}
+use borrow.Author.Tests.{le-ltb, ltb-false, ne-eqb, eqb-true, not-false}
 use Rattle.cells.proofs.AnyLaws.{or-left, or-right}
 use Rattle.buffers.specs.Buffer.{words}
 use Rattle.requests.specs.declared.Size.{Size}
@@ -16,7 +16,7 @@ use Rattle.requests.specs.declared.Reason.{Reason}
 use Rattle.requests.specs.Answers.{reasonWord, word, first, left}
 use Rattle.requests.specs.Sizes.{over, unfit}
 use Rattle.requests.specs.Faults.{pairFaults}
-use Rattle.requests.proofs.SizeLaws.{not-unfit}
+use Rattle.requests.proofs.SizeLaws.{not-over, not-unfit}
 use Rattle.requests.specs.Exact.{None}
 use Rattle.requests.proofs.AnswerLaws.{first-none, refused}
 use Rattle.requests.proofs.WordLaws.{some-reason}
@@ -28,11 +28,12 @@ use Rattle.matrix.specs.declared.turn.Turned.{Turned}
 use Rattle.matrix.specs.declared.turn.Turned.the-variants as a-turn
 use Rattle.matrix.specs.Job.{meant, tableSize, productSize}
 use Rattle.matrix.specs.Misfit.{misfit}
+use Rattle.matrix.specs.Width.{widthMeans}
 use Rattle.matrix.specs.Opening.{sizeTests, openingTests, noJob, opened, openingMeans}
 use Rattle.matrix.specs.Product.{productMeans}
 use Rattle.matrix.specs.Turn.{sizeA, sizeB, foundTests, turnTests, turned, turnMeans}
 use Rattle.matrix.specs.Record.{jobIn, recordOf}
-use Rattle.matrix.proofs.JobLaws.{meant-le}
+use Rattle.matrix.proofs.JobLaws.{meant-le, meant-some, meant-again, width-done}
 use Rattle.matrix.proofs.Demand3.{product-end}
 use Rattle.wordbytes.specs.Bytes.{wordsIn, bytesOf}
 use Rattle.cface.specs.Limit.{above, unfitBytes, misfitBytes}
@@ -44,7 +45,7 @@ use Rattle.cface.proofs.LimitLaws.{Room, room, fit-bytes, above-rows, a
 use Rattle.cface.proofs.CarryLaws.{past-none, left-old, left-new, carried}
 
 -- the library's tests of an opening, where no size, width or length is wrong
-module _ (x y : Size) (w : ℕ) (a b : List ℕ) (t p : ℕ) (small : (over x || over y) ≡ false) (same : not (eqb (x .columns) (y .rows)) ≡ false) (narrow : ltb 8 w ≡ false) (fa : unfitBytes x (length a) ≡ false) (fb : unfitBytes y (length b) ≡ false) (ft : unfit (tableSize y (meant w)) t ≡ false) (fp : unfit (productSize x y) p ≡ false) where
+module _ (x y : Size) (w : ℕ) (a b : List ℕ) (t p : ℕ) (small : (over x || over y) ≡ false) (same : not (eqb (x .columns) (y .rows)) ≡ false) (narrow : ltb 8 w ≡ false) (fa : unfitBytes x (length a) ≡ false) (fb : unfitBytes y (length b) ≡ false) (ft : unfit (tableSize y (meant x w)) t ≡ false) (fp : unfit (productSize x y) p ≡ false) where
   opening-left : first (openingTests x y w (wordsIn a) (wordsIn b) t p) ≡ first (pairFaults First Second x y (wordsIn a) (wordsIn b))
   unfolding openingTests misfit
   opening-left =
@@ -77,8 +78,8 @@ module _ (x y : Size) (a b : List ℕ) (n : ℕ) (z : first (productSizes x y (l
   unfolding productSizes
   bytes-out = fits-out x y (productSize x y) (length a) (length b) n (product-none .1 .1 .1 .0)
 
-  pub product-columns : y .columns ≤ 64
-  product-columns = above-columns y small-b
+  pub product-limits : (x .rows ≤ 64) × (x .columns ≤ 64) × (y .columns ≤ 64)
+  product-limits = (above-rows x small-a, above-columns x small-a, above-columns y small-b)
 
   pub product-room-a : Room 128 (length a)
   product-room-a = room x 64 (length a) (above-rows x small-a) (above-columns x small-a) bytes-a
@@ -89,19 +90,19 @@ module _ (x y : Size) (a b : List ℕ) (n : ℕ) (z : first (productSizes x y (l
   pub product-room-out : Room 128 n
   product-room-out = room (productSize x y) 64 n (above-rows x small-a) (above-columns y small-b) bytes-out
 
-  product-same : (t k : ℕ) → t ≡ words 16 (y .columns) → n ≡ 8 * k → first (openingTests x y 0 (wordsIn a) (wordsIn b) t k) ≡ first (productFaceTests x y a b n)
-  unfolding productFaceTests productSizes meant
-  product-same t k et e =
-      opening-left x y 0 a b t k (product-none .0) (product-none .1 .1 .0) refl bytes-a bytes-b (not-unfit (tableSize y (meant 0)) t et) (fits-words (productSize x y) n k bytes-out e)
+  product-same : (w t k : ℕ) → 0 < w → w ≤ 7 → t ≡ words (2 ^ w) (y .columns) → n ≡ 8 * k → first (openingTests x y w (wordsIn a) (wordsIn b) t k) ≡ first (productFaceTests x y a b n)
+  unfolding productFaceTests productSizes
+  product-same w t k pos narrow et e =
+      opening-left x y w a b t k (product-none .0) (product-none .1 .1 .0) (le-ltb 8 w (omega arith)) bytes-a bytes-b (rw (← meant-some x w (λ z. omega arith)) (not-unfit (tableSize y w) t et)) (fits-words (productSize x y) n k bytes-out e)
       ∙ sym (past-none (productSizes x y (length a) (length b) n) (pairFaults First Second x y (wordsIn a) (wordsIn b)) product-none)
 
-pub product-carried : (x y : Size) (a b out u v t w t′ w′ : List ℕ) (f : ℕ) (r : Answer) → first (productSizes x y (length a) (length b) (length out)) ≡ 0 → length t ≡ words 16 (y .columns) → length out ≡ 8 * length w
-    → u ≡ wordsIn a → v ≡ wordsIn b → f ≡ word r → (word r, (t′, w′)) ≡ productMeans x y 0 u v t w → (f, left f out (bytesOf w′)) ≡ productFace x y a b out
+pub product-carried : (x y : Size) (k : ℕ) (a b out u v t w t′ w′ : List ℕ) (f : ℕ) (r : Answer) → first (productSizes x y (length a) (length b) (length out)) ≡ 0 → 0 < k → k ≤ 7 → length t ≡ words (2 ^ k) (y .columns) → length out ≡ 8 * length w
+    → u ≡ wordsIn a → v ≡ wordsIn b → f ≡ word r → (word r, (t′, w′)) ≡ productMeans x y k u v t w → (f, left f out (bytesOf w′)) ≡ productFace x y a b out
 unfolding productMeans productFace
-product-carried x y a b out u v t w t′ w′ f r z table room eu ev e says =
-    let on : _≡_ {A = ℕ × (List ℕ × List ℕ)} (word r, (t′, w′)) (productMeans x y 0 (wordsIn a) (wordsIn b) t w) = rw (eu, ev) at says in
-    carried {S = List ℕ × List ℕ} (λ o. bytesOf (o .1)) (openingTests x y 0 (wordsIn a) (wordsIn b) (length t) (length w)) _ (t, w) _ (t′, w′) out _ f (word r) e on
-    (product-same x y a b (length out) z (length t) (length w) table room) (λ ok _. ap bytesOf (product-end x y 0 (wordsIn a) (wordsIn b) t w r t′ w′ on ok))
+product-carried x y k a b out u v t w t′ w′ f r z pos narrow table room eu ev e says =
+    let on : _≡_ {A = ℕ × (List ℕ × List ℕ)} (word r, (t′, w′)) (productMeans x y k (wordsIn a) (wordsIn b) t w) = rw (eu, ev) at says in
+    carried {S = List ℕ × List ℕ} (λ o. bytesOf (o .1)) (openingTests x y k (wordsIn a) (wordsIn b) (length t) (length w)) _ (t, w) _ (t′, w′) out _ f (word r) e on
+    (product-same x y a b (length out) z k (length t) (length w) pos narrow table room) (λ ok _. ap bytesOf (product-end x y k (wordsIn a) (wordsIn b) t w r t′ w′ on ok))
 
 -- ---- opening
 
@@ -110,7 +111,7 @@ module _ (x y : Size) (width k : ℕ) (a b : List ℕ) (t p : ℕ) (z : first (o
   unfolding openSizes
   open-none = first-none (openSizes x y width k (length a) (length b) t p) tt z
 
-  lengths : misfitBytes x y (meant width) (length a) (length b) t p ≡ false
+  lengths : misfitBytes x y (meant x width) (length a) (length b) t p ≡ false
   unfolding openSizes
   lengths = open-none .1 .1 .1 .1 .1 .0
 
@@ -122,31 +123,41 @@ module _ (x y : Size) (width k : ℕ) (a b : List ℕ) (t p : ℕ) (z : first (o
   unfolding openSizes
   open-b = or-right (above x) (above y) (open-none .1 .1 .0)
 
-  open-width : meant width ≤ 8
+  open-width : meant x width ≤ 8
   unfolding openSizes
-  open-width = meant-le width (ltb-false 8 width (open-none .1 .1 .1 .1 .0))
+  open-width = meant-le x width (ltb-false 8 width (open-none .1 .1 .1 .1 .0))
 
   pub open-record : k ≡ 56
   unfolding openSizes unfitRecord
   open-record = eqb-true k (8 * 7) (not-false (eqb k (8 * 7)) (open-none .0))
 
   pub open-room-a : Room 128 (length a)
-  open-room-a = room x 64 (length a) (above-rows x open-a) (above-columns x open-a) (fit-a x y (meant width) (length a) (length b) t p lengths)
+  open-room-a = room x 64 (length a) (above-rows x open-a) (above-columns x open-a) (fit-a x y (meant x width) (length a) (length b) t p lengths)
 
   pub open-room-b : Room 128 (length b)
-  open-room-b = room y 64 (length b) (above-rows y open-b) (above-columns y open-b) (fit-b x y (meant width) (length a) (length b) t p lengths)
+  open-room-b = room y 64 (length b) (above-rows y open-b) (above-columns y open-b) (fit-b x y (meant x width) (length a) (length b) t p lengths)
 
   pub open-room-table : Room 512 t
-  open-room-table = room (tableSize y (meant width)) 256 t (pow-small (meant width) open-width) (above-columns y open-b) (fit-table x y (meant width) (length a) (length b) t p lengths)
+  open-room-table = room (tableSize y (meant x width)) 256 t (pow-small (meant x width) open-width) (above-columns y open-b) (fit-table x y (meant x width) (length a) (length b) t p lengths)
 
   pub open-room-product : Room 128 p
-  open-room-product = room (productSize x y) 64 p (above-rows x open-a) (above-columns y open-b) (fit-product x y (meant width) (length a) (length b) t p lengths)
+  open-room-product = room (productSize x y) 64 p (above-rows x open-a) (above-columns y open-b) (fit-product x y (meant x width) (length a) (length b) t p lengths)
 
   pub open-same : (i j : ℕ) → t ≡ 8 * i → p ≡ 8 * j → first (openingTests x y width (wordsIn a) (wordsIn b) i j) ≡ first (openFaceTests x y width k a b t p)
   unfolding openFaceTests openSizes
   open-same i j ei ej =
-      opening-left x y width a b i j (open-none .1 .0) (open-none .1 .1 .1 .0) (open-none .1 .1 .1 .1 .0) (fit-a x y (meant width) (length a) (length b) t p lengths) (fit-b x y (meant width) (length a) (length b) t p lengths) (fits-words (tableSize y (meant width)) t i (fit-table x y (meant width) (length a) (length b) t p lengths) ei) (fits-words (productSize x y) p j (fit-product x y (meant width) (length a) (length b) t p lengths) ej)
+      opening-left x y width a b i j (open-none .1 .0) (open-none .1 .1 .1 .0) (open-none .1 .1 .1 .1 .0) (fit-a x y (meant x width) (length a) (length b) t p lengths) (fit-b x y (meant x width) (length a) (length b) t p lengths) (fits-words (tableSize y (meant x width)) t i (fit-table x y (meant x width) (length a) (length b) t p lengths) ei) (fits-words (productSize x y) p j (fit-product x y (meant x width) (length a) (length b) t p lengths) ej)
       ∙ sym (past-none (openSizes x y width k (length a) (length b) t p) (pairFaults First Second x y (wordsIn a) (wordsIn b)) open-none)
+
+-- an opening at the width meant is that opening
+module _ (x y : Size) (w : ℕ) (narrow : w ≤ 8) where
+  pub sizes-meant : (k l m t p : ℕ) → openSizes x y (meant x w) k l m t p ≡ openSizes x y w k l m t p
+  unfolding openSizes
+  sizes-meant k l m t p = rw (le-ltb 8 (meant x w) (meant-le x w narrow), le-ltb 8 w narrow, meant-again x w)
+
+  pub open-meant : (r a b t p : List ℕ) → openFace x y (meant x w) r a b t p ≡ openFace x y w r a b t p
+  unfolding openFace openFaceTests
+  open-meant r a b t p = rw (sizes-meant (length r) (length a) (length b) (length t) (length p), meant-again x w)
 
 -- what is so where no size, width or length of an opening is wrong
 pub record Fits (x y : Size) (width k : ℕ) (a b : List ℕ) (t p : ℕ) : Type 0 where
@@ -170,11 +181,24 @@ open-fits x y width k a b t p z =
       l = above-columns x (open-a x y width k a b t p z);
       n = above-columns y (open-b x y width k a b t p z);
       narrow = ltb-false 8 width (h .1 .1 .1 .1 .0);
-      bytes-a = fit-bytes x (length a) (fit-a x y (meant width) (length a) (length b) t p size);
-      bytes-b = rw same (fit-bytes y (length b) (fit-b x y (meant width) (length a) (length b) t p size));
+      bytes-a = fit-bytes x (length a) (fit-a x y (meant x width) (length a) (length b) t p size);
+      bytes-b = rw same (fit-bytes y (length b) (fit-b x y (meant x width) (length a) (length b) t p size));
       table = open-room-table x y width k a b t p z .whole;
       product = open-room-product x y width k a b t p z .whole;
     }
+
+-- what the request for the width answered, handed on to an opening
+module _ (x y : Size) (width w : ℕ) (job a b t p : List ℕ) (z : first (openSizes x y width (length job) (length a) (length b) (length t) (length p)) ≡ 0) (e : w ≡ widthMeans x width .1) where
+  asked : w ≡ meant x width
+  asked = let F = open-fits x y width (length job) a b (length t) (length p) z in width-done x width w (not-over x (omega (arith, F .m)) (omega (arith, F .l))) (F .narrow) e
+
+  pub asked-sizes : first (openSizes x y w (length job) (length a) (length b) (length t) (length p)) ≡ 0
+  asked-sizes =
+      let F = open-fits x y width (length job) a b (length t) (length p) z in
+      rw asked (ap first (sizes-meant x y width (F .narrow) (length job) (length a) (length b) (length t) (length p)) ∙ z)
+
+  pub asked-open : openFace x y w job a b t p ≡ openFace x y width job a b t p
+  asked-open = rw asked (open-meant x y width (open-fits x y width (length job) a b (length t) (length p) z .narrow) job a b t p)
 
 open-carried : (x y : Size) (width : ℕ) (job a b table product u v t p t′ p′ : List ℕ) (new : Job) (f n : ℕ)
     → first (openSizes x y width (length job) (length a) (length b) (length table) (length product)) ≡ 0 → length table ≡ 8 * length t → length product ≡ 8 * length p → u ≡ wordsIn a → v ≡ wordsIn b → f ≡ n

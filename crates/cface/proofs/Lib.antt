@@ -1,9 +1,11 @@
 pub mod LimitLaws
 pub mod CarryLaws
 pub mod JobCarryLaws
+pub mod CountLaws
 pub mod Outcomes
 pub mod Refusals
 pub mod Turns
+pub mod DefaultWidth
 pub mod Impostors
 pub mod Demand2
 pub mod Numbers

@@ -102,10 +102,6 @@ part-length ws n m long r =
     let e : length (take (n / 8 - 0) ws) ≡ n / 8 - 0 = length-take-le (n / 8 - 0) ws (omega (arith, r .most)) in
     omega (arith, e, r .whole)
 
--- the part that holds 16 rows of at most 64 columns
-pub exact-part : (ws : List ℕ) (c q : ℕ) → length ws ≡ 32 → c ≤ 64 → q ≡ planes c → length (take (16 * (2 * q) - 0) ws) ≡ words 16 c
-unfolding words wide
-exact-part ws c q long h e =
-    let s : 16 * (2 * q) ≤ 32 = rw e (omega (arith, two-words c h)) in
-    let l : length (take (16 * (2 * q) - 0) ws) ≡ 16 * (2 * q) - 0 = length-take-le (16 * (2 * q) - 0) ws (omega (arith, s)) in
-    l ∙ rw e (omega arith)
+-- the part that holds a table of t words
+pub exact-part : (ws : List ℕ) (t n : ℕ) → t ≤ length ws → t ≡ n → length (take (t - 0) ws) ≡ n
+exact-part ws t n h e = length-take-le (t - 0) ws (omega arith) ∙ omega (arith, e)

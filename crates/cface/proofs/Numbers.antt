@@ -1,6 +1,6 @@
 -- The numbers that each call of the C face gives, in their order, without their places; and its word fits in 64 bits, whatever it is handed. Assumes
 -- nothing.
-use mathlib.Core.Path.{ap, _∙_}
+use mathlib.Core.Path.{refl, ap, _∙_}
 use mathlib.Core.List.{List, [], _++_}
 use Prim.Native.Nat.{ℕ}
 use native.Mathlib.Omega.{arith}
@@ -19,6 +19,7 @@ use Rattle.wordbytes.specs.Bytes.{wordsIn}
 use Rattle.cface.specs.Check.{checkSizes, checkFaceTests}
 use Rattle.cface.specs.Negation.{negationSizes, negationFaceTests}
 use Rattle.cface.specs.Pair.{pairSizes, pairFaceTests}
+use Rattle.cface.specs.Count.{countTests}
 use Rattle.cface.specs.Product.{productSizes, productFaceTests}
 use Rattle.cface.specs.Open.{openSizes, openFaceTests}
 use Rattle.cface.specs.Turn.{turnSizes, turnFaceTests}
@@ -58,6 +59,14 @@ product-worded x y a b n = record {
   fits = fits-here _ 1 _ (λ _. omega arith) (λ h.
       fits-here _ 11 _ (λ _. omega arith) (λ _.
       fits-here _ 2 _ (λ _. omega arith) (λ _. fits-here _ 4 _ (λ _. omega arith) (λ _. pair-fit First Second x y (wordsIn a) (wordsIn b) (or-left (over x) (over y) h) (or-right (over x) (over y) h)))));
+}
+
+-- of width and quote
+pub count-worded : (x : Size) (w n : ℕ) → Worded (countTests x w n) (countTests x w n)
+unfolding countTests
+count-worded x w n = record {
+  numbers-are = refl;
+  fits = fits-here _ 1 _ (λ _. omega arith) (λ _. fits-here _ 11 _ (λ _. omega arith) (λ _. fits-here _ 3 _ (λ _. omega arith) (λ _. fits-here _ 4 [] (λ _. omega arith) (λ _. none-fits))));
 }
 
 pub open-worded : (x y : Size) (w k : ℕ) (a b : List ℕ) (t p : ℕ)

@@ -8,6 +8,8 @@ use Rattle.cface.specs.Check.{checkFace}
 use Rattle.cface.specs.Sum.{sumFace}
 use Rattle.cface.specs.Difference.{differenceFace}
 use Rattle.cface.specs.Negation.{negationFace}
+use Rattle.cface.specs.Width.{widthFace}
+use Rattle.cface.specs.Quote.{quoteFace}
 use Rattle.cface.specs.Product.{productFace}
 use Rattle.cface.specs.Open.{openFace}
 use Rattle.cface.specs.Turn.{turnFace}
@@ -26,6 +28,12 @@ negation-one s a out r r′ o o′ p q = words-coincide (negationFace s a out) r
 
 pub product-one : (x y : Size) (a b out : List ℕ) (r r′ : ℕ) (o o′ : List ℕ) → (r, o) ≡ productFace x y a b out → (r′, o′) ≡ productFace x y a b out → (r ≡ r′) × (o ≡ o′)
 product-one x y a b out r r′ o o′ p q = words-coincide (productFace x y a b out) r r′ o o′ p q
+
+pub width-one : (x : Size) (w : ℕ) (out : List ℕ) (r r′ : ℕ) (o o′ : List ℕ) → (r, o) ≡ widthFace x w out → (r′, o′) ≡ widthFace x w out → (r ≡ r′) × (o ≡ o′)
+width-one x w out r r′ o o′ p q = words-coincide (widthFace x w out) r r′ o o′ p q
+
+pub quote-one : (x : Size) (w : ℕ) (out : List ℕ) (r r′ : ℕ) (o o′ : List ℕ) → (r, o) ≡ quoteFace x w out → (r′, o′) ≡ quoteFace x w out → (r ≡ r′) × (o ≡ o′)
+quote-one x w out r r′ o o′ p q = words-coincide (quoteFace x w out) r r′ o o′ p q
 
 -- ---- jobs: record, table and product
 

@@ -1,7 +1,7 @@
 -- For each call: a number is given exactly when its test is the first in the order that holds, and then every buffer, the record too, holds
 -- what it held; done is given exactly when no test holds, and then what is new is left. Assumes nothing.
 use mathlib.Core.Path.{_≡_}
-use mathlib.Core.List.{List}
+use mathlib.Core.List.{List, [], _∷_}
 use Prim.Native.Nat.{ℕ}
 use lib.ListN.{length}
 use Rattle.buffers.specs.Buffer.{cell, encode}
@@ -13,6 +13,8 @@ use Rattle.requests.proofs.PairLaws.{faults-positive, pair-positive}
 use Rattle.requests.proofs.AnswerLaws.{positive-append, numbered, exact}
 use Rattle.matrix.proofs.JobLaws.{cell-positive}
 use Rattle.steps.specs.Matrix.{schoolbook}
+use Rattle.steps.specs.Count.{quote}
+use Rattle.matrix.specs.Job.{meant}
 use Rattle.matrix.specs.Opening.{openedOf}
 use Rattle.matrix.specs.Turn.{cellTests, lateTests, turnedOf}
 use Rattle.matrix.specs.Sum.{sumOf}
@@ -25,6 +27,9 @@ use Rattle.cface.specs.Pair.{pairSizes, pairFaceTests}
 use Rattle.cface.specs.Sum.{sumFace}
 use Rattle.cface.specs.Difference.{differenceFace}
 use Rattle.cface.specs.Negation.{negationSizes, negationFaceTests, negationFace}
+use Rattle.cface.specs.Count.{countTests}
+use Rattle.cface.specs.Width.{widthFace}
+use Rattle.cface.specs.Quote.{quoteFace}
 use Rattle.cface.specs.Product.{productSizes, productFaceTests, productFace}
 use Rattle.cface.specs.Open.{openSizes, openFaceTests, openBytes, openFace}
 use Rattle.cface.specs.Turn.{turnSizes, turnBytes, turnFaceTests, turnFace}
@@ -53,6 +58,15 @@ pub product-exact : (x y : Size) (a b out : List ℕ) (r : ℕ) (o : List ℕ) �
     (bytesOf (encode (x .rows) (y .columns) (schoolbook (x .columns) (cell (x .columns) (wordsIn a)) (cell (y .columns) (wordsIn b))))) r o
 unfolding productFace productFaceTests productSizes faults
 product-exact x y a b out r o says = exact (productFaceTests x y a b (length out)) _ _ r o (pair-positive First Second x y (wordsIn a) (wordsIn b)) says
+
+pub width-exact : (x : Size) (w : ℕ) (out : List ℕ) (r : ℕ) (o : List ℕ) → (r, o) ≡ widthFace x w out → Exact (countTests x w (length out)) out (bytesOf (meant x w ∷ [])) r o
+unfolding widthFace countTests
+width-exact x w out r o says = exact (countTests x w (length out)) _ _ r o tt says
+
+pub quote-exact : (x : Size) (w : ℕ) (out : List ℕ) (r : ℕ) (o : List ℕ) → (r, o) ≡ quoteFace x w out
+    → Exact (countTests x w (length out)) out (bytesOf (quote (x .rows) (x .columns) (meant x w) ∷ [])) r o
+unfolding quoteFace countTests
+quote-exact x w out r o says = exact (countTests x w (length out)) _ _ r o tt says
 
 pub open-exact : (x y : Size) (w : ℕ) (job a b t p : List ℕ) (r : ℕ) (o : List ℕ × (List ℕ × List ℕ)) → (r, o) ≡ openFace x y w job a b t p
     → Exact {S = List ℕ × (List ℕ × List ℕ)} (openFaceTests x y w (length job) a b (length t) (length p)) (job, (t, p)) (openBytes (openedOf x y w)) r o

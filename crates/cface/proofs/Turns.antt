@@ -97,36 +97,36 @@ module _ (x y : Size) (w : ℕ) (a b : List ℕ) (hm : x .rows ≤ 64) (hl : x .
 
   -- the list's length; the state after the first d steps, and the record, the table and the product of a job that stands there
   abbrev pub long : ℕ
-  long = total (x .rows) (x .columns) (meant w) (cell (x .columns) (wordsIn a))
+  long = total (x .rows) (x .columns) (meant x w) (cell (x .columns) (wordsIn a))
 
   abbrev pub at : ℕ → State
-  at d = stateAt x y (meant w) (wordsIn a) (wordsIn b) d
+  at d = stateAt x y (meant x w) (wordsIn a) (wordsIn b) d
 
   abbrev pub jobOf : ℕ → Job
-  jobOf d = jobAt x y (meant w) d
+  jobOf d = jobAt x y (meant x w) d
 
   abbrev pub recordAt : ℕ → ℕ → Bool → List ℕ
   recordAt d made ended = bytesOf (recordOf (jobOf d) made ended)
 
   abbrev pub tableAt : ℕ → List ℕ
-  tableAt d = bytesOf (encode (2 ^ meant w) (y .columns) (at d .table))
+  tableAt d = bytesOf (encode (2 ^ meant x w) (y .columns) (at d .table))
 
   abbrev pub productAt : ℕ → List ℕ
   productAt d = bytesOf (encode (x .rows) (y .columns) (at d .product))
 
   long-small : long ≤ 1050112
-  long-small = total-most (x .rows) (x .columns) (meant w) (cell (x .columns) (wordsIn a)) im il (meant-le w hw)
+  long-small = total-most (x .rows) (x .columns) (meant x w) (cell (x .columns) (wordsIn a)) im il (meant-le x w hw)
 
   -- the steps that a turn makes after d of them, and where it stands then
   abbrev makes : ℕ → ℕ → ℕ
-  makes d budget = made (steps (x .rows) (x .columns) (meant w) (cell (x .columns) (wordsIn a))) d budget
+  makes d budget = made (steps (x .rows) (x .columns) (meant x w) (cell (x .columns) (wordsIn a))) d budget
 
   abbrev next : ℕ → ℕ → ℕ
   next d budget = min (d + budget) long
 
   words-at : (d made : ℕ) (ended : Bool) → d ≤ long → made < 2 ^ 64 → wordsIn (recordAt d made ended) ≡ recordOf (jobOf d) made ended
   words-at d made ended h small-made =
-      words-bytes _ (record-words (jobOf d) made ended (omega arith) (omega arith) (omega arith) (omega (arith, meant-le w hw)) (omega (arith, long-small)) small-made)
+      words-bytes _ (record-words (jobOf d) made ended (omega arith) (omega arith) (omega arith) (omega (arith, meant-le x w hw)) (omega (arith, long-small)) small-made)
 
   no-size : (d made : ℕ) (ended : Bool) → first (turnSizes (jobOf d) (length (recordAt d made ended)) (length a) (length b) (length (tableAt d)) (length (productAt d))) ≡ 0
   unfolding turnSizes unfitRecord misfitBytes recordOf
@@ -138,9 +138,9 @@ module _ (x y : Size) (w : ℕ) (a b : List ℕ) (hm : x .rows ≤ 64) (hl : x .
           (
             rw (within (sizeA (jobOf d)) hm hl) (within (sizeB (jobOf d)) hl hn),
             (
-              rw (ne-eqb (meant w) 0 (λ e. omega (arith, meant-pos w))) (le-ltb 8 (meant w) (meant-le w hw)),
+              rw (ne-eqb (meant x w) 0 (λ e. omega (arith, meant-pos x w))) (le-ltb 8 (meant x w) (meant-le x w hw)),
               (
-                rw (fits (sizeA (jobOf d)) (length a) la, fits (sizeB (jobOf d)) (length b) lb, fits (tableSize y (meant w)) (length (tableAt d)) (encoded-length (2 ^ meant w) (y .columns) _))
+                rw (fits (sizeA (jobOf d)) (length a) la, fits (sizeB (jobOf d)) (length b) lb, fits (tableSize y (meant x w)) (length (tableAt d)) (encoded-length (2 ^ meant x w) (y .columns) _))
                     (fits (productSize x y) (length (productAt d)) (encoded-length (x .rows) (y .columns) _)),
                 tt,
               ),
@@ -150,7 +150,7 @@ module _ (x y : Size) (w : ℕ) (a b : List ℕ) (hm : x .rows ≤ 64) (hl : x .
       )
 
   -- these matrices are opened with any table and product of the right length, whatever the record's 56 bytes were
-  pub opens : (job t p : List ℕ) → x .columns ≡ y .rows → length job ≡ 56 → length t ≡ 8 * words (2 ^ meant w) (y .columns) → length p ≡ 8 * words (x .rows) (y .columns)
+  pub opens : (job t p : List ℕ) → x .columns ≡ y .rows → length job ≡ 56 → length t ≡ 8 * words (2 ^ meant x w) (y .columns) → length p ≡ 8 * words (x .rows) (y .columns)
       → openFace x y w job a b t p ≡ (0, (recordAt 0 0 false, (tableAt 0, productAt 0)))
   unfolding openFace openFaceTests openSizes unfitRecord misfitBytes faults after run opening
   opens job t p same r lt lp =
@@ -170,7 +170,7 @@ module _ (x y : Size) (w : ℕ) (a b : List ℕ) (hm : x .rows ≤ 64) (hl : x .
               (
                 le-ltb 8 w hw,
                 (
-                  rw (fits x (length a) la, fits y (length b) ly, fits (tableSize y (meant w)) (length t) lt) (fits (productSize x y) (length p) lp),
+                  rw (fits x (length a) la, fits y (length b) ly, fits (tableSize y (meant x w)) (length t) lt) (fits (productSize x y) (length p) lp),
                   (ta .0, (ta .1, (tb .0, (tb .1, tt)))),
                 ),
               ),
@@ -185,13 +185,13 @@ module _ (x y : Size) (w : ℕ) (a b : List ℕ) (hm : x .rows ≤ 64) (hl : x .
       ≡ (0, (recordAt (next d budget) (makes d budget) (eqb (next d budget) long), (tableAt (next d budget), productAt (next d budget))))
   unfolding left
   turn-stands d budget made ended h small-made =
-      sym (turn-carried (jobOf d) (recordAt d made ended) a b (tableAt d) (productAt d) (wordsIn a) (wordsIn b) (encode (2 ^ meant w) (y .columns) (at d .table)) (encode (x .rows) (y .columns) (at d .product)) _ _ budget _ _ _ 0 0
-      (sym (ap jobIn (words-at d made ended h small-made) ∙ job-read (jobOf d) made ended)) (no-size d made ended) refl refl (sym (words-bytes _ (encode-words (2 ^ meant w) (y .columns) _))) (sym (words-bytes _ (encode-words (x .rows) (y .columns) _))) refl
+      sym (turn-carried (jobOf d) (recordAt d made ended) a b (tableAt d) (productAt d) (wordsIn a) (wordsIn b) (encode (2 ^ meant x w) (y .columns) (at d .table)) (encode (x .rows) (y .columns) (at d .product)) _ _ budget _ _ _ 0 0
+      (sym (ap jobIn (words-at d made ended h small-made) ∙ job-read (jobOf d) made ended)) (no-size d made ended) refl refl (sym (words-bytes _ (encode-words (2 ^ meant x w) (y .columns) _))) (sym (words-bytes _ (encode-words (x .rows) (y .columns) _))) refl
       (sym (turn-at x y w (wordsIn a) (wordsIn b) im il jn hw LA LB d budget h)))
 
   -- a job of these matrices that stands at d
   abbrev pub At : ℕ → List ℕ → List ℕ → List ℕ → Type 0
-  At = Stands x y (meant w) a b
+  At = Stands x y (meant x w) a b
 
   Outcome : Type 0
   Outcome = ℕ × (List ℕ × (List ℕ × List ℕ))
@@ -227,14 +227,14 @@ module _ (x y : Size) (w : ℕ) (a b : List ℕ) (hm : x .rows ≤ 64) (hl : x .
   turns-stand = turns-from-start (Accepted a b) Stand long one-turn
 
   -- in demand 2's words: the record's first five words, and the digits of table and product
-  pub stands-reached : (d : ℕ) (job t p : List ℕ) → d ≤ long → At d job t p → Reached x y (meant w) a b d (job, (t, p))
+  pub stands-reached : (d : ℕ) (job t p : List ℕ) → d ≤ long → At d job t p → Reached x y (meant x w) a b d (job, (t, p))
   unfolding after recordOf
   stands-reached d job t p h S =
       let digits = run-digits (cell (y .columns) (wordsIn b)) _ opening opening-digits in
       record {
         long = ap length (S .record-is) ∙ bytes-length (recordOf (jobOf d) (S .made) (S .ended));
         words = ap (λ (bs : List ℕ). jobIn (wordsIn bs)) (S .record-is) ∙ ap jobIn (words-at d (S .made) (S .ended) h (S .made-fits)) ∙ job-read (jobOf d) (S .made) (S .ended);
-        table = rw (S .table-is) (encode-shows-bytes (2 ^ meant w) (y .columns) _ (λ i j _ _. digits .table i j));
+        table = rw (S .table-is) (encode-shows-bytes (2 ^ meant x w) (y .columns) _ (λ i j _ _. digits .table i j));
         product = rw (S .product-is) (encode-shows-bytes (x .rows) (y .columns) _ (λ i j _ _. digits .product i j));
       }
 
@@ -263,7 +263,7 @@ module _ (x y : Size) (w : ℕ) (job a b t p job₀ t₀ p₀ : List ℕ) (opene
       (open-same x y w (length job) a b (length t) (length p) sizes (length t / 8) (length p / 8) (F .table) (F .product) ∙ as-new .0)
 
   abbrev Standing : ℕ → List ℕ → List ℕ → List ℕ → Type 0
-  Standing = Stands x y (meant w) a b
+  Standing = Stands x y (meant x w) a b
 
   pub started : Standing 0 job₀ t₀ p₀
   unfolding after run opening
@@ -277,26 +277,26 @@ module _ (x y : Size) (w : ℕ) (job a b t p job₀ t₀ p₀ : List ℕ) (opene
   }
 
   -- a turn of a job that stands at d: it is done, and the job stands as far on as the budget and the length allow
-  pub turn-goes-on : (d budget n : ℕ) (s s₁ : Held) → d ≤ totalOf x (meant w) (wordsIn a) → Standing d (s .0) (s .1 .0) (s .1 .1) → (n, s₁) ≡ turnFace (s .0) a b (s .1 .0) (s .1 .1) budget
-      → (n ≡ 0) × Standing (min (d + budget) (totalOf x (meant w) (wordsIn a))) (s₁ .0) (s₁ .1 .0) (s₁ .1 .1)
+  pub turn-goes-on : (d budget n : ℕ) (s s₁ : Held) → d ≤ totalOf x (meant x w) (wordsIn a) → Standing d (s .0) (s .1 .0) (s .1 .1) → (n, s₁) ≡ turnFace (s .0) a b (s .1 .0) (s .1 .1) budget
+      → (n ≡ 0) × Standing (min (d + budget) (totalOf x (meant x w) (wordsIn a))) (s₁ .0) (s₁ .1 .0) (s₁ .1 .1)
   turn-goes-on d budget n s s₁ h S says =
       let z : n ≡ 0 = ap (λ (o : ℕ × Held). o .0) says ∙ accepted x y w a b (F .m) (F .l) (F .n) (F .narrow) (F .bytes-a) (F .bytes-b) (facts .left) (facts .right) d budget (s .0) (s .1 .0) (s .1 .1) h S in
       (z, one-turn x y w a b (F .m) (F .l) (F .n) (F .narrow) (F .bytes-a) (F .bytes-b) (facts .left) (facts .right) d budget s s₁ h S (rw z at says))
 
   -- what a host sees of a job that stands at d
-  pub seen-standing : (d : ℕ) (job₁ t₁ p₁ : List ℕ) → d ≤ totalOf x (meant w) (wordsIn a) → Standing d job₁ t₁ p₁ → Reached x y (meant w) a b d (job₁, (t₁, p₁))
+  pub seen-standing : (d : ℕ) (job₁ t₁ p₁ : List ℕ) → d ≤ totalOf x (meant x w) (wordsIn a) → Standing d job₁ t₁ p₁ → Reached x y (meant x w) a b d (job₁, (t₁, p₁))
   seen-standing = stands-reached x y w a b (F .m) (F .l) (F .n) (F .narrow) (F .bytes-a) (F .bytes-b) (facts .left) (facts .right)
 
   module _ (budgets : List ℕ) (job₁ t₁ p₁ : List ℕ) (given : Given (Accepted a b) (job₀, (t₀, p₀)) budgets (job₁, (t₁, p₁))) where
     abbrev reached : ℕ
-    reached = min (allBudgets budgets) (totalOf x (meant w) (wordsIn a))
+    reached = min (allBudgets budgets) (totalOf x (meant x w) (wordsIn a))
 
     -- the record stands at the smaller of the budgets' sum and the list's length, and the buffers hold what that many first steps leave
     pub demand-3 : Standing reached job₁ t₁ p₁
     demand-3 = turns-stand x y w a b (F .m) (F .l) (F .n) (F .narrow) (F .bytes-a) (F .bytes-b) (facts .left) (facts .right) budgets (job₀, (t₀, p₀)) (job₁, (t₁, p₁)) started given
 
     -- at the end the product is the schoolbook one, whatever the width
-    pub demand-3-end : totalOf x (meant w) (wordsIn a) ≤ allBudgets budgets → p₁ ≡ bytesOf (encode (x .rows) (y .columns) (schoolbook (x .columns) (cell (x .columns) (wordsIn a)) (cell (y .columns) (wordsIn b))))
+    pub demand-3-end : totalOf x (meant x w) (wordsIn a) ≤ allBudgets budgets → p₁ ≡ bytesOf (encode (x .rows) (y .columns) (schoolbook (x .columns) (cell (x .columns) (wordsIn a)) (cell (y .columns) (wordsIn b))))
     demand-3-end h = demand-3 .product-is ∙ end-stands x y w a b (F .m) (F .l) (F .n) (F .narrow) (F .bytes-a) (F .bytes-b) (facts .left) (facts .right) reached (omega arith)
 
     -- the next turn is accepted too
@@ -304,20 +304,20 @@ module _ (x y : Size) (w : ℕ) (job a b t p job₀ t₀ p₀ : List ℕ) (opene
     demand-3-goes-on budget = accepted x y w a b (F .m) (F .l) (F .n) (F .narrow) (F .bytes-a) (F .bytes-b) (facts .left) (facts .right) reached budget job₁ t₁ p₁ (omega arith) demand-3
 
     -- the record's words: m, l, n, the width and the steps done, and then the two of the last turn
-    pub demand-3-record : wordsIn job₁ ≡ recordOf (record { m = x .rows; l = x .columns; n = y .columns; width = meant w; done = reached }) (demand-3 .made) (demand-3 .ended)
+    pub demand-3-record : wordsIn job₁ ≡ recordOf (record { m = x .rows; l = x .columns; n = y .columns; width = meant x w; done = reached }) (demand-3 .made) (demand-3 .ended)
     demand-3-record =
         ap wordsIn (demand-3 .record-is)
         ∙ words-at x y w a b (F .m) (F .l) (F .n) (F .narrow) (F .bytes-a) (F .bytes-b) (facts .left) (facts .right) reached (demand-3 .made) (demand-3 .ended) (omega arith) (demand-3 .made-fits)
 
     abbrev makes-next : ℕ → ℕ
-    makes-next budget = made (steps (x .rows) (x .columns) (meant w) (cell (x .columns) (wordsIn a))) reached budget
+    makes-next budget = made (steps (x .rows) (x .columns) (meant x w) (cell (x .columns) (wordsIn a))) reached budget
 
     -- one turn more: the last two words say the steps that it made, and whether the list has ended
     pub demand-3-last : (budget : ℕ) → turnFace job₁ a b t₁ p₁ budget .1 .0
-        ≡ bytesOf (recordOf (record { m = x .rows; l = x .columns; n = y .columns; width = meant w; done = reached + makes-next budget }) (makes-next budget) (eqb (reached + makes-next budget) (totalOf x (meant w) (wordsIn a))))
+        ≡ bytesOf (recordOf (record { m = x .rows; l = x .columns; n = y .columns; width = meant x w; done = reached + makes-next budget }) (makes-next budget) (eqb (reached + makes-next budget) (totalOf x (meant x w) (wordsIn a))))
     unfolding total
     demand-3-last budget =
-        rw (made-done (steps (x .rows) (x .columns) (meant w) (cell (x .columns) (wordsIn a))) reached budget (omega arith))
+        rw (made-done (steps (x .rows) (x .columns) (meant x w) (cell (x .columns) (wordsIn a))) reached budget (omega arith))
         (ap (λ (o : ℕ × (List ℕ × (List ℕ × List ℕ))). o .1 .0)
         (next-stands x y w a b (F .m) (F .l) (F .n) (F .narrow) (F .bytes-a) (F .bytes-b) (facts .left) (facts .right) reached budget job₁ t₁ p₁ (omega arith) demand-3))
 
@@ -335,7 +335,7 @@ pub record Ended (x y : Size) (a b p : List ℕ) : Type 0 where
   pub last : List ℕ
   pub last-table : List ℕ
   pub given : Given (Accepted a b) held budgets (last, (last-table, p))
-  pub reached : totalOf x (meant width) (wordsIn a) ≤ allBudgets budgets
+  pub reached : totalOf x (meant x width) (wordsIn a) ≤ allBudgets budgets
 
 ended-right : (x y : Size) (a b p : List ℕ) → Ended x y a b p → p ≡ bytesOf (encode (x .rows) (y .columns) (schoolbook (x .columns) (cell (x .columns) (wordsIn a)) (cell (y .columns) (wordsIn b))))
 ended-right x y a b p E =

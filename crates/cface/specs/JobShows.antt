@@ -21,7 +21,7 @@ use Rattle.cface.specs.Stands.{Held}
 pub record OpenedJob (x y : Size) (w : ℕ) (o : Held) : Type 0 where
   pub long : length (o .0) ≡ 56
   pub words : wordsIn (o .0) ≡ recordOf (newJob x y w) 0 false
-  pub table : ShowsBytes (2 ^ meant w) (y .columns) (λ i j. 0) (o .1 .0)
+  pub table : ShowsBytes (2 ^ meant x w) (y .columns) (λ i j. 0) (o .1 .0)
   pub product : ShowsBytes (x .rows) (y .columns) (λ i j. 0) (o .1 .1)
 
 -- the job that a record's bytes say

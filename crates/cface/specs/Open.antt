@@ -25,7 +25,7 @@ openSizes x y width k l m t p =
     ∷ (above x || above y, 11)
     ∷ (unmatched x y, 2)
     ∷ (ltb 8 width, 3)
-    ∷ (misfitBytes x y (meant width) l m t p, 4)
+    ∷ (misfitBytes x y (meant x width) l m t p, 4)
     ∷ []
 
 unfoldable pub openFaceTests : Size → Size → ℕ → ℕ → List ℕ → List ℕ → ℕ → ℕ → Tests

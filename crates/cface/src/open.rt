@@ -3,11 +3,11 @@ ghost use mathlib.Core.Path.{_≡_};
 ghost use Prim.Native.Nat.{_*_};
 ghost use lib.ListN.{length};
 ghost use Rattle.requests.specs.Answers.{word, first};
+ghost use Rattle.matrix.specs.Width.{widthMeans};
 ghost use Rattle.cface.specs.Open.{openSizes, openFace};
 use super::leave::put_job;
 use super::limit::either_above;
 use super::limit::misfit;
-use matrix::job::meant;
 use matrix::opening::Opened;
 use matrix::opening::opening;
 use requests::Answer;
@@ -18,8 +18,19 @@ use requests::sizes::either_over;
 use requests::word;
 use wordbytes::bytes::words_in_two;
 
-// The tests of sizes, width and lengths; k, l, m, t and p are how many bytes record, A, B, table and product have.
-fn judged(x: Size, y: Size, width: u64, k: usize, l: usize, m: usize, t: usize, p: usize) -> Answer
+// The tests of sizes, width and lengths; w is the width meant, and k, l, m, t and p are how many bytes record, A, B, table and product have.
+fn judged(
+    x: Size,
+    y: Size,
+    width: u64,
+    w: u64,
+    k: usize,
+    l: usize,
+    m: usize,
+    t: usize,
+    p: usize,
+) -> Answer
+    requires { ⌜ w ≡ widthMeans x width .1 ⌝ }
     ensures { λ r. ⌜ word r ≡ first (openSizes x y width k l m t p) ⌝ }
 {
     if k != 56 {
@@ -37,7 +48,7 @@ fn judged(x: Size, y: Size, width: u64, k: usize, l: usize, m: usize, t: usize, 
     if width > 8 {
         return Answer::Refused(Reason::WidthWrong);
     }
-    if misfit(x, y, meant(width), l, m, t, p) {
+    if misfit(x, y, w, l, m, t, p) {
         return Answer::Refused(Reason::LengthWrong);
     }
     Answer::Done
@@ -167,10 +178,13 @@ pub extern "C" fn nyuzolamba_open(
         rows: b_rows,
         columns: b_columns,
     };
+    let asked = matrix::width::width(x, width);
+    let w = asked.width;
     let f = word(judged(
         x,
         y,
         width,
+        w,
         job.len(),
         a.len(),
         b.len(),
@@ -180,5 +194,5 @@ pub extern "C" fn nyuzolamba_open(
     if f != 0 {
         return f;
     }
-    open_room(x, y, width, job, a, b, table, product)
+    open_room(x, y, w, job, a, b, table, product)
 }

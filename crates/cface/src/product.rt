@@ -1,15 +1,17 @@
 // The whole product, with a table of its own at the default width.
 ghost use mathlib.Core.Path.{_≡_};
-ghost use Prim.Native.Nat.{_*_};
+ghost use Prim.Native.Nat.{_*_, _^_, _≤_, _<_};
 ghost use lib.ListN.{length};
 ghost use Rattle.buffers.specs.Buffer.{words};
 ghost use Rattle.requests.specs.Answers.{word, first};
+ghost use Rattle.matrix.specs.Job.{meant};
 ghost use Rattle.cface.specs.Product.{productSizes, productFace};
 use super::leave::leave;
 use super::limit::either_above;
 use super::pair::unfits;
 use buffers::planes::planes;
 use matrix::product::product;
+use matrix::width::width;
 use requests::Answer;
 use requests::Reason;
 use requests::Size;
@@ -40,10 +42,28 @@ fn judged(x: Size, y: Size, l: usize, m: usize, n: usize) -> Answer
     Answer::Done
 }
 
-// The words of A, B and the product go into room for exactly as many; the table has 16 rows.
+// The default width, which is at most 7 within the limit.
+fn own_width(x: Size) -> u64
+    requires { ⌜ (x .rows ≤ 64) × (x .columns ≤ 64) ⌝ }
+    ensures { λ r. ⌜ (r ≡ meant x 0) × (0 < r) × (r ≤ 7) ⌝ }
+{
+    let asked = width(x, 0);
+    asked.width
+}
+
+// The words of the table at width k: of at most 128 rows.
+fn own_table(k: u64, y: Size) -> usize
+    requires { ⌜ (k ≤ 7) × (y .columns ≤ 64) ⌝ }
+    ensures { λ r. ⌜ (r ≡ words (2 ^ k) (y .columns)) × (r ≤ 256) ⌝ }
+{
+    (1usize << k) * (2 * planes(y.columns as usize))
+}
+
+// The words of A, B and the product go into room for exactly as many; the table has 2^k rows.
 fn product_words(
     x: Size,
     y: Size,
+    k: u64,
     a: &[u8],
     b: &[u8],
     out: &mut [u8],
@@ -52,11 +72,11 @@ fn product_words(
     table: &mut [u64],
     w: &mut [u64],
 ) -> u64
-    requires { ⌜ (first (productSizes x y (length (now a)) (length (now b)) (length (now out))) ≡ 0) × (length (now a) ≡ 8 * length (now u)) × (length (now b) ≡ 8 * length (now v)) × (length (now out) ≡ 8 * length (now w)) × (length (now table) ≡ words 16 (y .columns)) ⌝ }
+    requires { ⌜ (first (productSizes x y (length (now a)) (length (now b)) (length (now out))) ≡ 0) × (length (now a) ≡ 8 * length (now u)) × (length (now b) ≡ 8 * length (now v)) × (length (now out) ≡ 8 * length (now w)) × (length (now table) ≡ words (2 ^ k) (y .columns)) × (0 < k) × (k ≤ 7) ⌝ }
     ensures { λ r. ⌜ (r, now (out .exit)) ≡ productFace x y (now (a .entry)) (now (b .entry)) (now (out .entry)) ⌝ }
 {
     words_in_two(a, b, u, v);
-    let f = word(product(x, y, 0, u, v, table, w));
+    let f = word(product(x, y, k, u, v, table, w));
     leave(f, w, out)
 }
 
@@ -64,6 +84,7 @@ fn product_words(
 fn product_parts(
     x: Size,
     y: Size,
+    k: u64,
     a: &[u8],
     b: &[u8],
     out: &mut [u8],
@@ -72,36 +93,37 @@ fn product_parts(
     table: &mut [u64],
     w: &mut [u64],
 ) -> u64
-    requires { ⌜ (first (productSizes x y (length (now a)) (length (now b)) (length (now out))) ≡ 0) × (length (now u) ≡ 128) × (length (now v) ≡ 128) × (length (now table) ≡ 32) × (length (now w) ≡ 128) ⌝ }
+    requires { ⌜ (first (productSizes x y (length (now a)) (length (now b)) (length (now out))) ≡ 0) × (length (now u) ≡ 128) × (length (now v) ≡ 128) × (length (now table) ≡ 256) × (length (now w) ≡ 128) × (0 < k) × (k ≤ 7) ⌝ }
     ensures { λ r. ⌜ (r, now (out .exit)) ≡ productFace x y (now (a .entry)) (now (b .entry)) (now (out .entry)) ⌝ }
 {
     let i = a.len() / 8;
     let j = b.len() / 8;
-    let t = 16 * (2 * planes(y.columns as usize));
-    let k = out.len() / 8;
+    let t = own_table(k, y);
+    let n = out.len() / 8;
     product_words(
         x,
         y,
+        k,
         a,
         b,
         out,
         &mut u[0..i],
         &mut v[0..j],
         &mut table[0..t],
-        &mut w[0..k],
+        &mut w[0..n],
     )
 }
 
 // Room for the most words that the limit allows.
-fn product_room(x: Size, y: Size, a: &[u8], b: &[u8], out: &mut [u8]) -> u64
-    requires { ⌜ first (productSizes x y (length (now a)) (length (now b)) (length (now out))) ≡ 0 ⌝ }
+fn product_room(x: Size, y: Size, k: u64, a: &[u8], b: &[u8], out: &mut [u8]) -> u64
+    requires { ⌜ (first (productSizes x y (length (now a)) (length (now b)) (length (now out))) ≡ 0) × (0 < k) × (k ≤ 7) ⌝ }
     ensures { λ r. ⌜ (r, now (out .exit)) ≡ productFace x y (now (a .entry)) (now (b .entry)) (now (out .entry)) ⌝ }
 {
     let mut u = [0u64; 128];
     let mut v = [0u64; 128];
-    let mut table = [0u64; 32];
+    let mut table = [0u64; 256];
     let mut w = [0u64; 128];
-    product_parts(x, y, a, b, out, &mut u, &mut v, &mut table, &mut w)
+    product_parts(x, y, k, a, b, out, &mut u, &mut v, &mut table, &mut w)
 }
 
 #[no_mangle]
@@ -128,5 +150,6 @@ pub extern "C" fn nyuzolamba_product(
     if f != 0 {
         return f;
     }
-    product_room(x, y, a, b, product)
+    let k = own_width(x);
+    product_room(x, y, k, a, b, product)
 }

@@ -15,22 +15,6 @@ fn size(rows: u64, columns: u64) -> Size {
 
 pub fn quotes() {
     value(
-        b"quote 2 by 3, width 1:",
-        matrix::quote::quote(size(2, 3), 1).steps,
-    );
-    value(
-        b"quote 2 by 3, width 2:",
-        matrix::quote::quote(size(2, 3), 2).steps,
-    );
-    value(
-        b"quote 2 by 3, width 3:",
-        matrix::quote::quote(size(2, 3), 3).steps,
-    );
-    value(
-        b"quote 2 by 3, width 8:",
-        matrix::quote::quote(size(2, 3), 8).steps,
-    );
-    value(
         b"quote 1024 by 1024, width 2:",
         matrix::quote::quote(size(1024, 1024), 2).steps,
     );

@@ -6,6 +6,7 @@ mod limits;
 mod places;
 mod show;
 mod tallies;
+mod widths;
 mod witness;
 
 fn main() {
@@ -16,7 +17,11 @@ fn main() {
     empty::tally();
     tallies::all_levels();
     tallies::no_low_level();
+    widths::quotes();
     jobs::quotes();
+    widths::squares();
+    widths::edges();
+    widths::asked();
     witness::quotes_met();
     jobs::no_middle();
     jobs::no_columns();

@@ -28,6 +28,7 @@ use Rattle.matrix.specs.declared.opening.Opened.{Opened}
 use Rattle.matrix.specs.declared.turn.Turned.{Turned}
 use Rattle.matrix.specs.Job.{meant, totalOf}
 use Rattle.matrix.specs.Quote.{quoteTests, quoteMeans}
+use Rattle.matrix.specs.Width.{widthMeans}
 use Rattle.matrix.specs.Total.{totalTests, totalMeans}
 use Rattle.matrix.specs.Opening.{opened, openingTests, noJob, openedOf, openingMeans}
 use Rattle.matrix.specs.Turn.{turned, foundTests, turnTests, turnedOf, turnMeans}
@@ -80,11 +81,15 @@ tally-exact c a r says = exact (checkTests (record { rows = 1; columns = c }) a)
 
 -- ---- jobs
 
-pub quote-exact : (x : Size) (w : ℕ) (r : Answer) (n : ℕ) → (word r, n) ≡ quoteMeans x w → Exact (quoteTests x w) 0 (quote (x .rows) (x .columns) (meant w)) (word r) n
+pub quote-exact : (x : Size) (w : ℕ) (r : Answer) (n : ℕ) → (word r, n) ≡ quoteMeans x w → Exact (quoteTests x w) 0 (quote (x .rows) (x .columns) (meant x w)) (word r) n
 unfolding quoteMeans quoteTests
 quote-exact x w r n says = exact (quoteTests x w) _ _ (word r) n tt says
 
-pub total-exact : (x : Size) (w : ℕ) (a : List ℕ) (r : Answer) (n : ℕ) → (word r, n) ≡ totalMeans x w a → Exact (totalTests x w a) 0 (totalOf x (meant w) a) (word r) n
+pub width-exact : (x : Size) (w : ℕ) (r : Answer) (n : ℕ) → (word r, n) ≡ widthMeans x w → Exact (quoteTests x w) 0 (meant x w) (word r) n
+unfolding widthMeans quoteTests
+width-exact x w r n says = exact (quoteTests x w) _ _ (word r) n tt says
+
+pub total-exact : (x : Size) (w : ℕ) (a : List ℕ) (r : Answer) (n : ℕ) → (word r, n) ≡ totalMeans x w a → Exact (totalTests x w a) 0 (totalOf x (meant x w) a) (word r) n
 unfolding totalMeans totalTests faults
 total-exact x w a r n says = exact (totalTests x w a) _ _ (word r) n (faults-positive First x a) says
 
@@ -101,6 +106,6 @@ turn-exact job a b t p budget r t₁ p₁ says = exact (turnTests job a b t p) _
 
 pub product-exact : (x y : Size) (w : ℕ) (a b t p : List ℕ) (r : Answer) (o : List ℕ × List ℕ) → (word r, o) ≡ productMeans x y w a b t p
     → Exact {S = List ℕ × List ℕ} (openingTests x y w a b (length t) (length p)) (t, p)
-    (encode (2 ^ meant w) (y .columns) (endOf x y (meant w) a b .table), encode (x .rows) (y .columns) (endOf x y (meant w) a b .product)) (word r) o
+    (encode (2 ^ meant x w) (y .columns) (endOf x y (meant x w) a b .table), encode (x .rows) (y .columns) (endOf x y (meant x w) a b .product)) (word r) o
 unfolding productMeans openingTests faults
 product-exact x y w a b t p r o says = exact (openingTests x y w a b (length t) (length p)) _ _ (word r) o (pair-positive First Second x y a b) says

@@ -88,21 +88,21 @@ module _ (s : Size) (a out : List ℕ) (r : Answer) (o : List ℕ) where
 
 module _ (x y : Size) (w : ℕ) (a b t p : List ℕ) where
   pub opening-right : (job : Job) (t₁ p₁ : List ℕ) → opened (an-opening.Done job) t₁ p₁ ≡ openingMeans x y w a b t p
-      → Shows (2 ^ meant w) (y .columns) (λ i j. 0) t₁ × Shows (x .rows) (y .columns) (λ i j. 0) p₁
+      → Shows (2 ^ meant x w) (y .columns) (λ i j. 0) t₁ × Shows (x .rows) (y .columns) (λ i j. 0) p₁
   opening-right job t₁ p₁ says =
       let e = opening-exact x y w a b t p (an-opening.Done job) t₁ p₁ says .right refl in (
-        rw (ap (λ (o : Job × (List ℕ × List ℕ)). o .1 .0) e) (encode-shows (2 ^ meant w) (y .columns) (λ i j. 0) (λ i j _ _. omega arith)),
+        rw (ap (λ (o : Job × (List ℕ × List ℕ)). o .1 .0) e) (encode-shows (2 ^ meant x w) (y .columns) (λ i j. 0) (λ i j _ _. omega arith)),
         rw (ap (λ (o : Job × (List ℕ × List ℕ)). o .1 .1) e) (encode-shows (x .rows) (y .columns) (λ i j. 0) (λ i j _ _. omega arith)),
       )
 
   -- the product is the schoolbook one, and the table what the whole list leaves
   pub product-right : (r : Answer) (t₁ p₁ : List ℕ) → (word r, (t₁, p₁)) ≡ productMeans x y w a b t p → word r ≡ 0
-      → Shows (2 ^ meant w) (y .columns) (endOf x y (meant w) a b .table) t₁ × Shows (x .rows) (y .columns) (schoolbook (x .columns) (cell (x .columns) a) (cell (y .columns) b)) p₁
+      → Shows (2 ^ meant x w) (y .columns) (endOf x y (meant x w) a b .table) t₁ × Shows (x .rows) (y .columns) (schoolbook (x .columns) (cell (x .columns) a) (cell (y .columns) b)) p₁
   unfolding endOf schoolbook
   product-right r t₁ p₁ says z =
       let e = product-exact x y w a b t p r (t₁, p₁) says .right z in
-      let digits = run-digits (cell (y .columns) b) (steps (x .rows) (x .columns) (meant w) (cell (x .columns) a)) opening opening-digits in (
-        rw (ap (λ (o : List ℕ × List ℕ). o .0) e) (encode-shows (2 ^ meant w) (y .columns) (endOf x y (meant w) a b .table) (λ i j _ _. digits .table i j)),
+      let digits = run-digits (cell (y .columns) b) (steps (x .rows) (x .columns) (meant x w) (cell (x .columns) a)) opening opening-digits in (
+        rw (ap (λ (o : List ℕ × List ℕ). o .0) e) (encode-shows (2 ^ meant x w) (y .columns) (endOf x y (meant x w) a b .table) (λ i j _ _. digits .table i j)),
         rw (product-end x y w a b t p r t₁ p₁ says z) (encode-shows (x .rows) (y .columns) _ (λ i j _ _. omega arith)),
       )
 

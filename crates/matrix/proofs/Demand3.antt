@@ -63,7 +63,7 @@ module _ (x y : Size) (w : ℕ) (a b : List ℕ) (hm : x .rows ≤ 1024) (hl : x
   n = y .columns
 
   abbrev k : ℕ
-  k = meant w
+  k = meant x w
 
   abbrev A : Matrix
   A = cell l a
@@ -93,7 +93,7 @@ module _ (x y : Size) (w : ℕ) (a b : List ℕ) (hm : x .rows ≤ 1024) (hl : x
   productAt d = encode m n (at d .product)
 
   k8 : k ≤ 8
-  k8 = meant-le w hw
+  k8 = meant-le x w hw
 
   no-fault : (d : ℕ) → first (foundTests (recordAt d) a b (tableAt d) (productAt d)) ≡ 0
   unfolding foundTests faults misfit
@@ -105,7 +105,7 @@ module _ (x y : Size) (w : ℕ) (a b : List ℕ) (hm : x .rows ≤ 1024) (hl : x
       none-first (foundTests (recordAt d) a b (tableAt d) (productAt d)) (
         rw (not-over (sizeA (recordAt d)) hm hl) (not-over (sizeB (recordAt d)) hl hn),
         (
-          rw (ne-eqb k 0 (λ e. omega (arith, meant-pos w))) (le-ltb 8 k k8),
+          rw (ne-eqb k 0 (λ e. omega (arith, meant-pos x w))) (le-ltb 8 k k8),
           (
             rw (not-unfit (sizeA (recordAt d)) (length a) (LA .long), not-unfit (sizeB (recordAt d)) (length b) (LB .long), not-unfit (tableSize (sizeB (recordAt d)) k) (length (tableAt d)) (encode-legal (2 ^ k) n (at d .table) .long))
                 (not-unfit (productSize (sizeA (recordAt d)) (sizeB (recordAt d))) (length (productAt d)) (encode-legal m n (at d .product) .long)),
@@ -137,7 +137,7 @@ module _ (x y : Size) (w : ℕ) (a b : List ℕ) (hm : x .rows ≤ 1024) (hl : x
       ≡ (0, (recordAt (next d budget), (makes d budget, (eqb (next d budget) long, (tableAt (next d budget), productAt (next d budget))))))
   unfolding turnMeans turnedOf turn total
   turn-at d budget h =
-      let S = turn-same k m l n A B (meant-pos w) opening (found n (tableAt d) (productAt d)) d budget h (found-at d) in
+      let S = turn-same k m l n A B (meant-pos x w) opening (found n (tableAt d) (productAt d)) d budget h (found-at d) in
       let e = made-done (steps m l k A) d budget h in
       let t = encode-within (2 ^ k) n _ _ (S .table) in
       let p = encode-within m n _ _ (S .product) in
@@ -220,7 +220,7 @@ module _ (x y : Size) (w : ℕ) (a b : List ℕ) (hm : x .rows ≤ 1024) (hl : x
   unfolding total
   end-right d h =
       encode-within m n _ _
-      (λ i j p q. ap (λ (st : State). st .product i j) (after-all B (steps m l k A) opening d h) ∙ steps-right m l A B (λ i j _ _. cell-lt l a i j) k (meant-pos w) i p j)
+      (λ i j p q. ap (λ (st : State). st .product i j) (after-all B (steps m l k A) opening d h) ∙ steps-right m l A B (λ i j _ _. cell-lt l a i j) k (meant-pos x w) i p j)
 
   pub quoted : long ≤ quote m l k
   quoted = total-le m l k A
@@ -240,7 +240,7 @@ module _ (x y : Size) (w : ℕ) (a b t p : List ℕ) (job₀ : Job) (t₀ p₀ :
 
   -- where a job of these sizes, this width and these matrices stands
   abbrev Standing : ℕ → Job → List ℕ → List ℕ → Type 0
-  Standing = Stands x y (meant w) a b
+  Standing = Stands x y (meant x w) a b
 
   pub started : Standing 0 job₀ t₀ p₀
   started =
@@ -253,14 +253,14 @@ module _ (x y : Size) (w : ℕ) (a b t p : List ℕ) (job₀ : Job) (t₀ p₀ :
 
   module _ (budgets : List ℕ) (job₁ : Job) (t₁ p₁ : List ℕ) (given : Given (Accepted a b) (job₀, (t₀, p₀)) budgets (job₁, (t₁, p₁))) where
     abbrev reached : ℕ
-    reached = min (allBudgets budgets) (totalOf x (meant w) a)
+    reached = min (allBudgets budgets) (totalOf x (meant x w) a)
 
     -- the job stands at the smaller of the budgets' sum and the list's length, and holds what that many first steps leave
     pub demand-3 : Standing reached job₁ t₁ p₁
     demand-3 = turns-at x y w a b (facts .m) (facts .l) (facts .n) (facts .width) (facts .left) (facts .right) budgets (job₀, (t₀, p₀)) (job₁, (t₁, p₁)) started given
 
     -- at the end the product is the schoolbook one, whatever the width
-    pub demand-3-end : totalOf x (meant w) a ≤ allBudgets budgets → p₁ ≡ encode (x .rows) (y .columns) (schoolbook (x .columns) (cell (x .columns) a) (cell (y .columns) b))
+    pub demand-3-end : totalOf x (meant x w) a ≤ allBudgets budgets → p₁ ≡ encode (x .rows) (y .columns) (schoolbook (x .columns) (cell (x .columns) a) (cell (y .columns) b))
     demand-3-end h = demand-3 .product-is ∙ end-right x y w a b (facts .m) (facts .l) (facts .n) (facts .width) (facts .left) (facts .right) reached (omega arith)
 
     -- the next turn is accepted too
@@ -268,15 +268,15 @@ module _ (x y : Size) (w : ℕ) (a b t p : List ℕ) (job₀ : Job) (t₀ p₀ :
     demand-3-goes-on budget = accepted x y w a b (facts .m) (facts .l) (facts .n) (facts .width) (facts .left) (facts .right) reached budget job₁ t₁ p₁ (omega arith) demand-3
 
     -- after the end a turn is accepted, makes no step and writes nothing
-    pub demand-3-ended : totalOf x (meant w) a ≤ allBudgets budgets → (budget : ℕ) → turnMeans job₁ a b t₁ p₁ budget ≡ (0, (job₁, (0, (true, (t₁, p₁)))))
+    pub demand-3-ended : totalOf x (meant x w) a ≤ allBudgets budgets → (budget : ℕ) → turnMeans job₁ a b t₁ p₁ budget ≡ (0, (job₁, (0, (true, (t₁, p₁)))))
     demand-3-ended h budget =
-        let e : reached ≡ totalOf x (meant w) a = omega arith in
+        let e : reached ≡ totalOf x (meant x w) a = omega arith in
         let S = subst (λ (d : ℕ). Standing d job₁ t₁ p₁) e demand-3 in
         rw (S .record-is, S .table-is, S .product-is) (at-end x y w a b (facts .m) (facts .l) (facts .n) (facts .width) (facts .left) (facts .right) budget)
 
   -- the length never exceeds the quote
-  pub demand-3-quote : totalOf x (meant w) a ≤ quote (x .rows) (x .columns) (meant w)
-  demand-3-quote = total-le (x .rows) (x .columns) (meant w) (cell (x .columns) a)
+  pub demand-3-quote : totalOf x (meant x w) a ≤ quote (x .rows) (x .columns) (meant x w)
+  demand-3-quote = total-le (x .rows) (x .columns) (meant x w) (cell (x .columns) a)
 
 -- ---- the whole product as one request
 
@@ -286,7 +286,7 @@ unfolding productMeans endOf
 product-end x y w a b t p r t₁ p₁ says ok =
     let e = done-makes (openingTests x y w a b (length t) (length p)) _ _ (t₁, p₁) (rw ok at says) in
     ap (λ (o : List ℕ × List ℕ). o .1) (e .1)
-    ∙ encode-within (x .rows) (y .columns) _ _ (λ i j h q. steps-right (x .rows) (x .columns) (cell (x .columns) a) (cell (y .columns) b) (λ i j _ _. cell-lt (x .columns) a i j) (meant w) (meant-pos w) i h j)
+    ∙ encode-within (x .rows) (y .columns) _ _ (λ i j h q. steps-right (x .rows) (x .columns) (cell (x .columns) a) (cell (y .columns) b) (λ i j _ _. cell-lt (x .columns) a i j) (meant x w) (meant-pos x w) i h j)
 
 -- so it is equal for every width
 pub widths-agree : (x y : Size) (w w′ : ℕ) (a b t p t′ p′ : List ℕ) (r r′ : Answer) (t₁ p₁ t₂ p₂ : List ℕ)
@@ -307,7 +307,7 @@ pub record Ended (x y : Size) (a b p : List ℕ) : Type 0 where
   pub last : Job
   pub last-table : List ℕ
   pub given : Given (Accepted a b) held budgets (last, (last-table, p))
-  pub reached : totalOf x (meant width) a ≤ allBudgets budgets
+  pub reached : totalOf x (meant x width) a ≤ allBudgets budgets
 
 ended-right : (x y : Size) (a b p : List ℕ) → Ended x y a b p → p ≡ encode (x .rows) (y .columns) (schoolbook (x .columns) (cell (x .columns) a) (cell (y .columns) b))
 ended-right x y a b p E =

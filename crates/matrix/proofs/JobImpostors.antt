@@ -24,6 +24,7 @@ use Rattle.requests.proofs.ShownOut.{ShownOut, shown-out}
 use Rattle.steps.specs.Step.{lowestBit, cleared, put, apply, run, opening}
 use Rattle.steps.specs.StepList.{unless0, many, each, tableSteps, rowSteps, blockSteps, blocks, blockWidth, steps}
 use Rattle.steps.specs.Count.{quote, total}
+use Rattle.steps.specs.Width.{better, cheapest, defaultWidth}
 use Rattle.steps.specs.Turn.{due, made, turn}
 use Rattle.walk.specs.Ran.{found}
 use Rattle.matrix.specs.declared.job.Job.{Job}
@@ -31,6 +32,7 @@ use Rattle.matrix.specs.declared.turn.Turned.{Turned}
 use Rattle.matrix.specs.Job.{meant}
 use Rattle.matrix.specs.Misfit.{misfit}
 use Rattle.matrix.specs.Quote.{quoteTests, quoteMeans}
+use Rattle.matrix.specs.Width.{widthMeans}
 use Rattle.matrix.specs.Total.{totalTests, totalMeans}
 use Rattle.matrix.specs.Opening.{openingTests, openingMeans}
 use Rattle.matrix.specs.Product.{endOf, productMeans}
@@ -39,6 +41,9 @@ use Rattle.matrix.proofs.Outcomes.{turned-left}
 
 abbrev one : Size
 one = record { rows = 1; columns = 1 }
+
+abbrev square : Size
+square = record { rows = 8; columns = 8 }
 
 abbrev none : Size
 none = record { rows = 0; columns = 0 }
@@ -87,12 +92,13 @@ pub record Sums : Type 0 where
   pub zero-cell : means (job 0, zero1, one1, newTable, zero1, 2) ≡ (0, (job 1, (1, (true, (madeTable, zero1)))))
   pub totals : (totalMeans one 1 zero1 ≡ (0, 1)) × (totalMeans one 1 one1 ≡ (0, 2))
   pub quoted : (quoteMeans one 1 ≡ (0, 2)) × (quoteMeans none 1 ≡ (0, 0))
+  pub chosen : (widthMeans one 0 ≡ (0, 1)) × (widthMeans square 0 ≡ (0, 4))
   pub opened-at : (openingMeans none none 1 [] [] [] [] ≡ (0, (emptyJob 1, ([], [])))) × (openingMeans none none 2 [] [] [] [] ≡ (0, (emptyJob 2, ([], []))))
   pub multiplied : (productMeans one one 1 one1 one1 newTable zero1 ≡ (0, (madeTable, one1))) × (productMeans one one 1 zero1 one1 newTable zero1 ≡ (0, (madeTable, zero1)))
 
 pub sums : Sums
-unfolding turnMeans turnTests foundTests turnedOf turn made openingMeans openingTests productMeans endOf totalMeans totalTests quoteMeans quoteTests quote total sum meant misfit due found steps blocks blockWidth blockSteps rowSteps tableSteps each many unless0 bitsOf lowestBit cleared put apply run opening answered first left over unfit faults stray padded any unit sign cell bitAt bit planes wide words encode joined plane tab wordOf unitOf signOf add3 sub3 is trailingZeros
-sums = record { first-step = refl; second-step = refl; both-steps = refl; zero-cell = refl; totals = (refl, refl); quoted = (refl, refl); opened-at = (refl, refl); multiplied = (refl, refl) }
+unfolding turnMeans turnTests foundTests turnedOf turn made openingMeans openingTests productMeans endOf totalMeans totalTests quoteMeans quoteTests widthMeans defaultWidth cheapest better quote total sum meant misfit due found steps blocks blockWidth blockSteps rowSteps tableSteps each many unless0 bitsOf lowestBit cleared put apply run opening answered first left over unfit faults stray padded any unit sign cell bitAt bit planes wide words encode joined plane tab wordOf unitOf signOf add3 sub3 is trailingZeros
+sums = record { first-step = refl; second-step = refl; both-steps = refl; zero-cell = refl; totals = (refl, refl); quoted = (refl, refl); chosen = (refl, refl); opened-at = (refl, refl); multiplied = (refl, refl) }
 
 one-zero : one1 ≡ zero1 → ⊥
 one-zero e = let z : _≡_ {A = ℕ} 1 0 = ap (λ (l : List ℕ). getD l 0 0) e in omega arith
@@ -152,6 +158,10 @@ module _ (f : Size → ℕ → List ℕ → Answer × ℕ) (meets : (x : Size) (
 
 pub quote-shown-out : ShownOut {X = ℕ} {I = Size} {S = ℕ} word (λ w x. quoteMeans x w)
 quote-shown-out = shown-out word _ 1 one none 2 0 (sums .quoted .0) (sums .quoted .1) (λ e. omega arith)
+
+-- a default that is the same for all sizes too
+pub width-shown-out : ShownOut {X = ℕ} {I = Size} {S = ℕ} word (λ w x. widthMeans x w)
+width-shown-out = shown-out word _ 0 one square 1 4 (sums .chosen .0) (sums .chosen .1) (λ e. omega arith)
 
 pub total-shown-out : ShownOut {X = Size × ℕ} {I = List ℕ} {S = ℕ} word (λ x a. totalMeans (x .0) (x .1) a)
 total-shown-out = shown-out word _ (one, 1) zero1 one1 1 2 (sums .totals .0) (sums .totals .1) (λ e. omega arith)

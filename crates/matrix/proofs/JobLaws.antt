@@ -2,7 +2,7 @@
 use mathlib.Core.Path.{_≡_, refl, sym, ap, ap₂, subst, _∙_}
 use mathlib.Core.Bool.{Bool, false, _||_}
 use mathlib.Core.List.{List, [], _++_}
-use Prim.Native.Nat.{ℕ, zero, suc, _+_, _-_, _*_, _^_, _≤_, _<_, min}
+use Prim.Native.Nat.{ℕ, zero, suc, _+_, _-_, _*_, _%_, _^_, _≤_, _<_, min}
 use native.Mathlib.Numerals.{add-one}
 use native.Mathlib.Omega.{arith}
 use lib.Dec.{T, ltb, eqb}
@@ -11,17 +11,17 @@ use lib.ListN.{length, getD, List·getD-eq-default}
 use borrow.Author.Tests.{ltb-false, lt-ltb, le-ltb, eqb-true, eqb-false, not-false}
 use Rattle.cells.proofs.AnyLaws.{or-left, or-right}
 use Rattle.cells.specs.Digit.{Matrix}
-use Rattle.buffers.specs.Buffer.{words, cell, Legal, encode}
+use Rattle.buffers.specs.Buffer.{planes, wide, words, cell, Legal, encode}
 use Rattle.buffers.proofs.BufferLaws.{legal-tests, cell-encode, encode-within, encode-legal, zeros-encode}
 use Rattle.requests.specs.declared.Size.{Size}
-use Rattle.requests.specs.Answers.{first}
+use Rattle.requests.specs.Answers.{first, answered}
 use Rattle.requests.specs.Sizes.{over, unfit}
 use Rattle.requests.specs.Faults.{faults, pairFaults}
 use Rattle.requests.proofs.SizeLaws.{over-rows, over-columns, unfit-long}
 use Rattle.requests.specs.Exact.{None}
 use Rattle.requests.specs.declared.Buffer.the-variants.{First, Second, Third, Fourth}
 use Rattle.requests.proofs.PairLaws.{faults-positive, pair-positive}
-use Rattle.requests.proofs.AnswerLaws.{positive, positive-append, first-none, append-given, append-none, here, later}
+use Rattle.requests.proofs.AnswerLaws.{positive, positive-append, finished, none-first, first-none, append-given, append-none, here, later}
 use Rattle.rows.specs.Row.{Written}
 use Rattle.cells.specs.Counts.{sum}
 use Rattle.steps.specs.Step.{Step, run, opening}
@@ -29,34 +29,40 @@ use Rattle.steps.specs.StepList.{each, blocks, blockWidth, blockAt}
 use Rattle.steps.specs.Count.{quote, total}
 use Rattle.steps.specs.Turn.{due, made, turn}
 use Rattle.steps.proofs.Fits.{AllFit}
-use Rattle.steps.proofs.Most.{quote-most}
-use Rattle.cells.proofs.SumLaws.{sum-none, sum-last, sum-mono}
+use Rattle.steps.proofs.Width.{default-is}
 use Rattle.steps.proofs.Same.{SameState, run-same}
 use Rattle.walk.specs.declared.place.Standing.{Standing}
 use Rattle.walk.specs.Place.{StandsAt}
 use Rattle.walk.specs.Ran.{found, Ran}
-use Rattle.walk.proofs.CountLaws.{pow-small}
+use Rattle.walk.proofs.CountLaws.{pow-small, shift-one}
 use Rattle.walk.proofs.PieceLaws.{from-place}
 use Rattle.matrix.specs.declared.job.Job.{Job}
 use Rattle.matrix.specs.Job.{meant, tableSize, productSize, totalOf}
 use Rattle.matrix.specs.Misfit.{misfit}
+use Rattle.matrix.specs.Quote.{quoteTests, quoteMeans}
+use Rattle.matrix.specs.Width.{widthMeans}
 use Rattle.matrix.specs.Total.{totalTests}
 use Rattle.matrix.specs.Opening.{openingTests}
 use Rattle.matrix.specs.Turn.{sizeA, sizeB, cellTests, foundTests, lateTests, turnTests, stepsOf, madeOf, onJob, turnedOf}
 
-pub meant-pos : (w : ℕ) → 0 < meant w
+pub meant-pos : (x : Size) (w : ℕ) → 0 < meant x w
 unfolding meant
-meant-pos zero = omega arith
-meant-pos (suc w) = omega arith
+meant-pos x zero = default-is (x .rows) (x .columns) .from
+meant-pos x (suc w) = omega arith
 
-pub meant-le : (w : ℕ) → w ≤ 8 → meant w ≤ 8
+pub meant-le : (x : Size) (w : ℕ) → w ≤ 8 → meant x w ≤ 8
 unfolding meant
-meant-le zero h = omega arith
-meant-le (suc w) h = h
+meant-le x zero h = default-is (x .rows) (x .columns) .to
+meant-le x (suc w) h = h
 
 pub table-small : (y : Size) (w : ℕ) → w ≤ 8 → y .columns ≤ 1024 → over (tableSize y w) ≡ false
 unfolding over
 table-small y w h l = rw (le-ltb 1024 (2 ^ w) (omega (arith, pow-small w h)), le-ltb 1024 (y .columns) l)
+
+-- the words of a table, as the code comes by them
+pub table-long : (k c q : ℕ) → k ≤ 8 → q ≡ planes c → 1 * 2 ^ k % 18446744073709551616 * (2 * q) ≡ words (2 ^ k) c
+unfolding words wide
+table-long k c q h e = rw (shift-one k h, e)
 
 pub product-small : (x y : Size) → x .rows ≤ 1024 → y .columns ≤ 1024 → over (productSize x y) ≡ false
 unfolding over
@@ -84,6 +90,10 @@ module _ (x y : Size) (w a b t p : ℕ) (h : misfit x y w a b t p ≡ false) whe
   pub fit-product : unfit (productSize x y) p ≡ false
   fit-product = or-right (unfit (tableSize y w) t) _ after-b
 
+pub quote-ready : (x : Size) (w : ℕ) → first (quoteTests x w) ≡ 0 → (over x ≡ false) × (w ≤ 8)
+unfolding quoteTests
+quote-ready x w z = let t : None (quoteTests x w) = first-none (quoteTests x w) tt z in (t .0, ltb-false 8 w (t .1 .0))
+
 pub record Countable (x : Size) (w : ℕ) (a : List ℕ) : Type 0 where
   pub rows : x .rows ≤ 1024
   pub columns : x .columns ≤ 1024
@@ -108,7 +118,7 @@ pub record Fitting (x y : Size) (w : ℕ) (a b : List ℕ) (t p : ℕ) : Type 0 
   pub width : w ≤ 8
   pub left : Legal (x .rows) (x .columns) a
   pub right : Legal (x .columns) (y .columns) b
-  pub table : t ≡ words (2 ^ meant w) (y .columns)
+  pub table : t ≡ words (2 ^ meant x w) (y .columns)
   pub product : p ≡ words (x .rows) (y .columns)
 
 pub opening-ready : (x y : Size) (w : ℕ) (a b : List ℕ) (t p : ℕ) → first (openingTests x y w a b t p) ≡ 0 → Fitting x y w a b t p
@@ -125,10 +135,10 @@ opening-ready x y w a b t p z =
       l = over-columns x small-x;
       n = over-columns y small-y;
       width = ltb-false 8 w (h .1 .1 .0);
-      left = legal-tests _ _ a (unfit-long x _ (fit-a x y (meant w) (length a) (length b) t p lengths)) (cells .0) (cells .1 .0);
-      right = rw same (legal-tests _ _ b (unfit-long y _ (fit-b x y (meant w) (length a) (length b) t p lengths)) (cells .1 .1 .0) (cells .1 .1 .1 .0));
-      table = unfit-long (tableSize y (meant w)) t (fit-table x y (meant w) (length a) (length b) t p lengths);
-      product = unfit-long (productSize x y) p (fit-product x y (meant w) (length a) (length b) t p lengths);
+      left = legal-tests _ _ a (unfit-long x _ (fit-a x y (meant x w) (length a) (length b) t p lengths)) (cells .0) (cells .1 .0);
+      right = rw same (legal-tests _ _ b (unfit-long y _ (fit-b x y (meant x w) (length a) (length b) t p lengths)) (cells .1 .1 .0) (cells .1 .1 .1 .0));
+      table = unfit-long (tableSize y (meant x w)) t (fit-table x y (meant x w) (length a) (length b) t p lengths);
+      product = unfit-long (productSize x y) p (fit-product x y (meant x w) (length a) (length b) t p lengths);
     }
 
 pub cell-positive : (job : Job) (a b t p : List ℕ) → T (positive (cellTests job a b t p))
@@ -179,10 +189,28 @@ standing-ready job a b t p z =
       product = legal-tests _ _ p (unfit-long (productSize x y) _ (fit-product x y w (length a) (length b) (length t) (length p) lengths)) (cells .1 .1 .1 .1 .1 .1 .0) (cells .1 .1 .1 .1 .1 .1 .1 .0);
     }
 
-pub meant-some : (w : ℕ) → (w ≡ 0 → ⊥) → w ≡ meant w
+pub meant-some : (x : Size) (w : ℕ) → (w ≡ 0 → ⊥) → w ≡ meant x w
 unfolding meant
-meant-some zero ne = absurd (ne refl)
-meant-some (suc w) ne = refl
+meant-some x zero ne = absurd (ne refl)
+meant-some x (suc w) ne = refl
+
+-- the width meant is meant by itself
+pub meant-again : (x : Size) (w : ℕ) → meant x (meant x w) ≡ meant x w
+meant-again x w = sym (meant-some x (meant x w) (λ e. omega (arith, meant-pos x w)))
+
+-- where neither sizes nor width are refused, the width and the quote are answered
+count-done : (x : Size) (w new r : ℕ) → over x ≡ false → w ≤ 8 → r ≡ answered (quoteTests x w) 0 new .1 → r ≡ new
+unfolding quoteTests
+count-done x w new r small narrow e =
+    e ∙ ap (λ (o : ℕ × ℕ). o .1) (sym (finished (quoteTests x w) 0 new new (none-first (quoteTests x w) (small, (le-ltb 8 w narrow, tt))) refl))
+
+pub width-done : (x : Size) (w r : ℕ) → over x ≡ false → w ≤ 8 → r ≡ widthMeans x w .1 → r ≡ meant x w
+unfolding widthMeans
+width-done x w r small narrow e = count-done x w (meant x w) r small narrow e
+
+pub quote-done : (x : Size) (w r : ℕ) → over x ≡ false → w ≤ 8 → r ≡ quoteMeans x w .1 → r ≡ quote (x .rows) (x .columns) (meant x w)
+unfolding quoteMeans
+quote-done x w r small narrow e = count-done x w (quote (x .rows) (x .columns) (meant x w)) r small narrow e
 
 -- ---- zero in a buffer
 
@@ -211,27 +239,6 @@ module _ (k m l n : ℕ) (B : Matrix) (ps : List Step) (t p t′ p′ : List ℕ
 
   pub opened-product : p′ ≡ encode m n (run B ps opening .product)
   opened-product = R .product ∙ encode-within m n _ _ (run-same k m l n B B (λ i j h q. refl) ps (found n t p) opening fit same-opening .product)
-
--- ---- the quote, block by block
-
-abbrev pub quoteAt : ℕ → ℕ → ℕ → ℕ → ℕ
-quoteAt m l k b = (2 ^ blockWidth l k b - 1) + m * min 2 (blockWidth l k b)
-
-pub quote-none : (m l k : ℕ) → 0 ≡ sum 0 0 (quoteAt m l k)
-quote-none m l k = sym (sum-none (quoteAt m l k) 0)
-
-pub quote-more : (m l k b n w o : ℕ) → w ≡ blockWidth l k b → o ≡ min 2 w → n ≡ sum 0 b (quoteAt m l k) → n + ((2 ^ w - 1) + m * o) ≡ sum 0 (b + 1) (quoteAt m l k)
-quote-more m l k b n w o ew eo en =
-    rw (add-one b)
-    (sym (sum-last (quoteAt m l k) b ∙ ap₂ _+_ (sym en) (ap (λ (v : ℕ). (2 ^ v - 1) + m * min 2 v) (sym ew) ∙ ap (λ (v : ℕ). (2 ^ w - 1) + m * v) (sym eo))))
-
-pub quote-small : (m l k b n : ℕ) → m ≤ 1024 → l ≤ 1024 → k ≤ 8 → b ≤ blocks l k → n ≡ sum 0 b (quoteAt m l k) → n ≤ 1050112
-unfolding quote
-quote-small m l k b n hm hl hk hb en = omega (arith, en, sum-mono (quoteAt m l k) b (blocks l k) hb, quote-most m l k hm hl hk)
-
-pub quote-all : (m l k b n : ℕ) → b ≡ blocks l k → n ≡ sum 0 b (quoteAt m l k) → n ≡ quote m l k
-unfolding quote
-quote-all m l k b n eb en = rw eb at en
 
 -- ---- what a turn answers
 

@@ -13,7 +13,9 @@ pub mod RoundTrips
 pub mod Demand2
 pub mod Impostors
 pub mod JobImpostors
+pub mod WidthLaws
 pub mod JobLaws
 pub mod Witness
 pub mod Numbers
 pub mod Demand3
+pub mod DefaultWidth

@@ -89,11 +89,11 @@ total-worded x w a = record {
 
 pub opening-worded : (x y : Size) (w : ℕ) (a b : List ℕ) (t p : ℕ)
     → Worded (openingTests x y w a b t p)
-    ((over x || over y, 1) ∷ (unmatched x y, 2) ∷ (ltb 8 w, 3) ∷ (misfit x y (meant w) (length a) (length b) t p, 4) ∷ (faultNumbers x a ++ faultNumbers y b))
+    ((over x || over y, 1) ∷ (unmatched x y, 2) ∷ (ltb 8 w, 3) ∷ (misfit x y (meant x w) (length a) (length b) t p, 4) ∷ (faultNumbers x a ++ faultNumbers y b))
 unfolding openingTests
 opening-worded x y w a b t p = record {
   numbers-are =
-      ap (λ (l : Tests). (over x || over y, 1) ∷ (unmatched x y, 2) ∷ (ltb 8 w, 3) ∷ (misfit x y (meant w) (length a) (length b) t p, 4) ∷ l) (pair-numbers First Second x y a b);
+      ap (λ (l : Tests). (over x || over y, 1) ∷ (unmatched x y, 2) ∷ (ltb 8 w, 3) ∷ (misfit x y (meant x w) (length a) (length b) t p, 4) ∷ l) (pair-numbers First Second x y a b);
   fits = fits-here _ 1 _ (λ _. omega arith) (λ h.
       fits-here _ 2 _ (λ _. omega arith) (λ _.
       fits-here _ 3 _ (λ _. omega arith) (λ _. fits-here _ 4 _ (λ _. omega arith) (λ _. pair-fit First Second x y a b (or-left (over x) (over y) h) (or-right (over x) (over y) h)))));

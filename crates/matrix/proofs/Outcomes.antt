@@ -22,6 +22,7 @@ use Rattle.matrix.specs.Transpose.{transposeMeans}
 use Rattle.matrix.specs.Tally.{tallyMeans}
 use Rattle.matrix.specs.declared.job.Job.{Job}
 use Rattle.matrix.specs.Quote.{quoteTests, quoteMeans}
+use Rattle.matrix.specs.Width.{widthMeans}
 use Rattle.matrix.specs.Total.{totalMeans}
 use Rattle.matrix.specs.Opening.{opened, openingMeans}
 use Rattle.matrix.specs.Turn.{turned, turnMeans}
@@ -61,10 +62,14 @@ tally-one c a r r′ h k p q =
 
 -- ---- jobs
 
--- a quote has no cells to look at, so that no word has a place
+-- a quote and a width have no cells to look at, so that no word has a place
 pub quote-one : (x : Size) (w : ℕ) (r r′ : Answer) (n n′ : ℕ) → (word r, n) ≡ quoteMeans x w → (word r′, n′) ≡ quoteMeans x w → (r ≡ r′) × (n ≡ n′)
 unfolding quoteMeans quoteTests
 quote-one x w r r′ n n′ p q = coincide-placeless (quoteTests x w) _ _ r r′ n n′ tt p q
+
+pub width-one : (x : Size) (w : ℕ) (r r′ : Answer) (n n′ : ℕ) → (word r, n) ≡ widthMeans x w → (word r′, n′) ≡ widthMeans x w → (r ≡ r′) × (n ≡ n′)
+unfolding widthMeans quoteTests
+width-one x w r r′ n n′ p q = coincide-placeless (quoteTests x w) _ _ r r′ n n′ tt p q
 
 pub total-one : (x : Size) (w : ℕ) (a : List ℕ) (r r′ : Answer) (n n′ : ℕ) → Typed r → Typed r′ → (word r, n) ≡ totalMeans x w a → (word r′, n′) ≡ totalMeans x w a → (r ≡ r′) × (n ≡ n′)
 total-one x w a r r′ n n′ h k p q = coincide (totalMeans x w a) r r′ n n′ h k p q

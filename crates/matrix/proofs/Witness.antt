@@ -63,11 +63,11 @@ witness-shows s = rw (← witness-words s) (encode-shows (s .rows) (s .columns) 
 
 -- ---- what the two requests answer
 
-witness-total : (x : Size) (w : ℕ) → totalOf x (meant w) (witnessWords x) ≡ quote (x .rows) (x .columns) (meant w)
+witness-total : (x : Size) (w : ℕ) → totalOf x (meant x w) (witnessWords x) ≡ quote (x .rows) (x .columns) (meant x w)
 unfolding total
 witness-total x w =
-    ap length (steps-same (x .rows) (x .columns) (meant w) (cell (x .columns) (witnessWords x)) witness (meant-pos w) (witness-shows x .digits))
-    ∙ witness-meets (x .rows) (x .columns) (meant w)
+    ap length (steps-same (x .rows) (x .columns) (meant x w) (cell (x .columns) (witnessWords x)) witness (meant-pos x w) (witness-shows x .digits))
+    ∙ witness-meets (x .rows) (x .columns) (meant x w)
 
 same-word : (x : Size) (w : ℕ) → first (totalTests x w (witnessWords x)) ≡ first (quoteTests x w)
 unfolding totalTests quoteTests faults
@@ -83,10 +83,10 @@ witness-answers x w k = (same-word x w k, left (same-word x w k) 0 (witness-tota
 
 -- within the limits both are done
 pub witness-done : (x : Size) (w : ℕ) → x .rows ≤ 1024 → x .columns ≤ 1024 → w ≤ 8
-    → (quoteMeans x w ≡ (0, quote (x .rows) (x .columns) (meant w))) × (totalMeans x w (witnessWords x) ≡ (0, quote (x .rows) (x .columns) (meant w)))
+    → (quoteMeans x w ≡ (0, quote (x .rows) (x .columns) (meant x w))) × (totalMeans x w (witnessWords x) ≡ (0, quote (x .rows) (x .columns) (meant x w)))
 unfolding quoteMeans quoteTests
 witness-done x w hm hl hw =
-    let q = sym (finished (quoteTests x w) 0 (quote (x .rows) (x .columns) (meant w)) _ (none-first (quoteTests x w) (not-over x hm hl, (le-ltb 8 w hw, tt))) refl) in
+    let q = sym (finished (quoteTests x w) 0 (quote (x .rows) (x .columns) (meant x w)) _ (none-first (quoteTests x w) (not-over x hm hl, (le-ltb 8 w hw, tt))) refl) in
     (q, witness-answers x w ∙ q)
 
 -- no number below the quote's answer is safe: what is at least the total of every legal buffer is at least that

@@ -6,11 +6,12 @@ use lib.Dec.{ltb, eqb}
 use Rattle.buffers.specs.Buffer.{cell}
 use Rattle.requests.specs.declared.Size.{Size}
 use Rattle.steps.specs.Count.{total}
+use Rattle.steps.specs.Width.{defaultWidth}
 
--- 0 means the default
-unfoldable pub meant : ℕ → ℕ
-meant zero = 4
-meant (suc w) = suc w
+-- 0 means the default for A's sizes
+unfoldable pub meant : Size → ℕ → ℕ
+meant x zero = defaultWidth (x .rows) (x .columns)
+meant x (suc w) = suc w
 
 -- in a turn a width is 1 to 8
 abbrev pub unwide : ℕ → Bool

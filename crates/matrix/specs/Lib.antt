@@ -14,6 +14,7 @@ pub mod Job
 pub mod Record
 pub mod Misfit
 pub mod Quote
+pub mod Width
 pub mod Total
 pub mod Witness
 pub mod Opening

@@ -18,7 +18,7 @@ use Rattle.matrix.specs.Misfit.{misfit}
 
 -- the tests of sizes, width and lengths; t and p are how many words table and product have
 abbrev pub sizeTests : Size → Size → ℕ → List ℕ → List ℕ → ℕ → ℕ → Tests
-sizeTests x y width a b t p = (over x || over y, 1) ∷ (unmatched x y, 2) ∷ (ltb 8 width, 3) ∷ (misfit x y (meant width) (length a) (length b) t p, 4) ∷ []
+sizeTests x y width a b t p = (over x || over y, 1) ∷ (unmatched x y, 2) ∷ (ltb 8 width, 3) ∷ (misfit x y (meant x width) (length a) (length b) t p, 4) ∷ []
 
 -- .. and cells
 unfoldable pub openingTests : Size → Size → ℕ → List ℕ → List ℕ → ℕ → ℕ → Tests
@@ -33,11 +33,11 @@ opened (Done job) t p = (0, (job, (t, p)))
 opened (Refused why) t p = (reasonWord why, (noJob, (t, p)))
 
 abbrev pub newJob : Size → Size → ℕ → Job
-newJob x y width = record { m = x .rows; l = x .columns; n = y .columns; width = meant width; done = 0 }
+newJob x y width = record { m = x .rows; l = x .columns; n = y .columns; width = meant x width; done = 0 }
 
 -- the record, and then table and product
 abbrev pub openedOf : Size → Size → ℕ → Job × (List ℕ × List ℕ)
-openedOf x y width = (newJob x y width, (encode (2 ^ meant width) (y .columns) (λ i j. 0), encode (x .rows) (y .columns) (λ i j. 0)))
+openedOf x y width = (newJob x y width, (encode (2 ^ meant x width) (y .columns) (λ i j. 0), encode (x .rows) (y .columns) (λ i j. 0)))
 
 unfoldable pub openingMeans : Size → Size → ℕ → List ℕ → List ℕ → List ℕ → List ℕ → ℕ × (Job × (List ℕ × List ℕ))
 openingMeans x y width a b t p = answered (openingTests x y width a b (length t) (length p)) (noJob, (t, p)) (openedOf x y width)

@@ -18,4 +18,4 @@ endOf x y width a b = run (cell (y .columns) b) (steps (x .rows) (x .columns) wi
 unfoldable pub productMeans : Size → Size → ℕ → List ℕ → List ℕ → List ℕ → List ℕ → ℕ × (List ℕ × List ℕ)
 productMeans x y width a b t p =
     answered (openingTests x y width a b (length t) (length p)) (t, p)
-    (encode (2 ^ meant width) (y .columns) (endOf x y (meant width) a b .table), encode (x .rows) (y .columns) (endOf x y (meant width) a b .product))
+    (encode (2 ^ meant x width) (y .columns) (endOf x y (meant x width) a b .table), encode (x .rows) (y .columns) (endOf x y (meant x width) a b .product))

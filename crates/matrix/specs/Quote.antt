@@ -12,4 +12,4 @@ unfoldable pub quoteTests : Size → ℕ → Tests
 quoteTests x width = (over x, 1) ∷ (ltb 8 width, 3) ∷ []
 
 unfoldable pub quoteMeans : Size → ℕ → ℕ × ℕ
-quoteMeans x width = answered (quoteTests x width) 0 (quote (x .rows) (x .columns) (meant width))
+quoteMeans x width = answered (quoteTests x width) 0 (quote (x .rows) (x .columns) (meant x width))

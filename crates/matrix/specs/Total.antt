@@ -15,4 +15,4 @@ unfoldable pub totalTests : Size → ℕ → List ℕ → Tests
 totalTests x width a = (over x, 1) ∷ (ltb 8 width, 3) ∷ (unfit x (length a), 4) ∷ faults First x a
 
 unfoldable pub totalMeans : Size → ℕ → List ℕ → ℕ × ℕ
-totalMeans x width a = answered (totalTests x width a) 0 (totalOf x (meant width) a)
+totalMeans x width a = answered (totalTests x width a) 0 (totalOf x (meant x width) a)

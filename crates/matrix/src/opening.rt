@@ -5,7 +5,7 @@ ghost use lib.ListN.{length, getD};
 ghost use Rattle.requests.specs.Answers.{word, first};
 ghost use Rattle.matrix.specs.Opening.{opened, openingTests, openingMeans};
 use super::job::Job;
-use super::job::meant;
+use super::meant::meant;
 use super::misfit::misfit;
 use requests::Answer;
 use requests::Buffer;
@@ -34,7 +34,7 @@ pub fn judged(x: Size, y: Size, width: u64, a: &[u64], b: &[u64], t: usize, p: u
     if width > 8 {
         return Answer::Refused(Reason::WidthWrong);
     }
-    if misfit(x, y, meant(width), a.len(), b.len(), t, p) {
+    if misfit(x, y, meant(x, width), a.len(), b.len(), t, p) {
         return Answer::Refused(Reason::LengthWrong);
     }
     either_fault(Buffer::First, Buffer::Second, x, y, a, b)
@@ -69,7 +69,7 @@ pub fn opening(
         m: x.rows,
         l: x.columns,
         n: y.columns,
-        width: meant(width),
+        width: meant(x, width),
         done: 0,
     };
     Opened::Done(new)

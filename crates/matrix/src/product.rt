@@ -8,7 +8,7 @@ ghost use Rattle.steps.specs.Step.{run, opening};
 ghost use Rattle.steps.specs.StepList.{steps};
 ghost use Rattle.walk.specs.Shape.{Within};
 ghost use Rattle.matrix.specs.Product.{productMeans};
-use super::job::meant;
+use super::meant::meant;
 use super::opening::judged;
 use super::opening::zero;
 use requests::Answer;
@@ -47,7 +47,7 @@ pub fn product(
         m: x.rows as usize,
         l: x.columns as usize,
         n: y.columns as usize,
-        width: meant(width) as usize,
+        width: meant(x, width) as usize,
     };
     multiplied(shape, a, b, table, product);
     Answer::Done

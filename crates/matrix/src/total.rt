@@ -2,7 +2,7 @@
 ghost use mathlib.Core.Path.{_≡_};
 ghost use Rattle.requests.specs.Answers.{word, first};
 ghost use Rattle.matrix.specs.Total.{totalTests, totalMeans};
-use super::job::meant;
+use super::meant::meant;
 use super::quote::Counted;
 use requests::Answer;
 use requests::Buffer;
@@ -39,7 +39,7 @@ pub fn total(x: Size, width: u64, a: &[u64]) -> Counted
             steps: 0,
         };
     }
-    let k = meant(width) as usize;
+    let k = meant(x, width) as usize;
     let at = place(a, x.rows as usize, x.columns as usize, k, 0);
     Counted {
         answer: Answer::Done,

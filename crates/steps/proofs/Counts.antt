@@ -10,7 +10,7 @@ use Rattle.cells.specs.Digit.{Matrix}
 use Rattle.steps.specs.Step.{Step, tableStep, plus, minus}
 use Rattle.cells.specs.Counts.{sum, is}
 use Rattle.steps.specs.StepList.{unless0, each, tableSteps, rowSteps, blockSteps, blocks, blockWidth, blockAt, steps}
-use Rattle.steps.specs.Count.{quote, total, rowCount, blockCount, countAt}
+use Rattle.steps.specs.Count.{blockQuote, quote, total, rowCount, blockCount, countAt}
 use Rattle.cells.proofs.SumLaws.{sum-le, sum-same, sum-ext}
 use Rattle.steps.proofs.BlockBits.{bits-none, bits-first}
 use Rattle.steps.proofs.Loops.{length-each, no-blocks}
@@ -61,7 +61,7 @@ row-le A s zero i = rw (bits-none 1 (A i) s, bits-none 2 (A i) s) (lit≤ tt)
 row-le A s (suc zero) i = omega (arith, bits-first 1 (A i) 0 s, bits-first 2 (A i) 0 s, bits-none 1 (A i) (suc s), bits-none 2 (A i) (suc s), not-both (A i s))
 row-le A s (suc (suc w)) i = omega arith
 
-pub block-le : (m : ℕ) (A : Matrix) (s w : ℕ) → blockCount m A s w ≤ (2 ^ w - 1) + m * min 2 w
+pub block-le : (m : ℕ) (A : Matrix) (s w : ℕ) → blockCount m A s w ≤ blockQuote m w
 unfolding blockCount
 block-le m A s w = omega (arith, sum-le (rowCount A s w) (λ _. min 2 w) (row-le A s w) m 0, sum-same (min 2 w) m 0)
 

@@ -6,6 +6,7 @@ pub mod Product
 pub mod Counts
 pub mod Witness
 pub mod Most
+pub mod Width
 pub mod Fits
 pub mod Kept
 pub mod Same

@@ -7,14 +7,14 @@ use Rattle.cells.specs.Counts.{sum}
 use Rattle.cells.proofs.SumLaws.{sum-last, sum-none}
 use Rattle.steps.specs.Matrix.{Digits}
 use Rattle.steps.specs.StepList.{blocks, blockWidth}
-use Rattle.steps.specs.Count.{quote, total}
+use Rattle.steps.specs.Count.{blockQuote, quote, total}
 use Rattle.steps.specs.Witness.{witness}
 use Rattle.steps.proofs.Loops.{width-le}
 use Rattle.steps.proofs.Counts.{total-le}
 use Rattle.steps.proofs.Witness.{witness-digits, witness-meets}
 
 -- a block of w columns is quoted at most 2,051 steps for every two of them; a block of two columns just that
-block-most : (m w : ℕ) → m ≤ 1024 → w ≤ 8 → 2 * ((2 ^ w - 1) + m * min 2 w) ≤ 2051 * w
+block-most : (m w : ℕ) → m ≤ 1024 → w ≤ 8 → 2 * blockQuote m w ≤ 2051 * w
 block-most m zero h k = omega arith
 block-most m (suc zero) h k = omega arith
 block-most m (suc (suc zero)) h k = omega arith

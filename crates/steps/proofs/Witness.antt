@@ -7,7 +7,7 @@ use Rattle.cells.proofs.BitLaws.{bits}
 use Rattle.cells.proofs.SumLaws.{sum-ext, sum-same}
 use Rattle.steps.specs.Matrix.{Digits}
 use Rattle.steps.specs.StepList.{blocks, blockWidth}
-use Rattle.steps.specs.Count.{quote, total, rowCount, blockCount}
+use Rattle.steps.specs.Count.{blockQuote, quote, total, rowCount, blockCount}
 use Rattle.steps.specs.Witness.{witness, Safe}
 use Rattle.steps.proofs.BlockBits.{bits-none, bits-first}
 use Rattle.steps.proofs.Counts.{total-counts, total-le}
@@ -29,7 +29,7 @@ row-met s (suc zero) i =
 row-met s (suc (suc w)) i =
     omega (arith, bits-first 1 (witness i) (suc w) s, bits-first 1 (witness i) w (suc s), bits-first 2 (witness i) (suc w) s, bits-first 2 (witness i) w (suc s), levels i s, levels i (suc s))
 
-block-met : (m s w : ℕ) → blockCount m witness s w ≡ (2 ^ w - 1) + m * min 2 w
+block-met : (m s w : ℕ) → blockCount m witness s w ≡ blockQuote m w
 unfolding blockCount
 block-met m s w = ap (λ (n : ℕ). (2 ^ w - 1) + n) (sum-ext (rowCount witness s w) (λ _. min 2 w) m 0 (λ i _ _. row-met s w i) ∙ sum-same (min 2 w) m 0)
 

@@ -5,8 +5,12 @@ use Rattle.cells.specs.Digit.{Matrix}
 use Rattle.cells.specs.Counts.{sum}
 use Rattle.steps.specs.StepList.{P, N, blocks, blockWidth, steps}
 
+-- what a block of w columns is quoted: its table rows, and two steps a row of A, or one where the block has one column
+abbrev pub blockQuote : ℕ → ℕ → ℕ
+blockQuote m w = (2 ^ w - 1) + m * min 2 w
+
 unfoldable pub quote : ℕ → ℕ → ℕ → ℕ
-quote m l k = sum 0 (blocks l k) (λ b. (2 ^ blockWidth l k b - 1) + m * min 2 (blockWidth l k b))
+quote m l k = sum 0 (blocks l k) (λ b. blockQuote m (blockWidth l k b))
 
 -- the exact total
 unfoldable pub total : ℕ → ℕ → ℕ → Matrix → ℕ

@@ -5,13 +5,15 @@ use Prim.Native.Nat.{ℕ, _-_}
 use native.Mathlib.Omega.{arith}
 use lib.ListN.{getD}
 use Rattle.cells.specs.Any.{any}
+use Rattle.cells.specs.Counts.{sum}
 use Rattle.buffers.specs.Buffer.{planes, wide, words, tab, joined, plane, encode}
 use Rattle.buffers.specs.Fault.{stray, padded}
 use Rattle.requests.specs.Answers.{first}
 use Rattle.requests.specs.Sizes.{over}
 use Rattle.requests.specs.Faults.{faults}
 use Rattle.requests.proofs.ShownOut.{ShownOut, shown-out}
-use Rattle.steps.specs.Count.{total}
+use Rattle.steps.specs.Count.{quote, total}
+use Rattle.steps.specs.Width.{better, cheapest, defaultWidth}
 use Rattle.steps.specs.StepList.{many, each, blocks, steps}
 use Rattle.matrix.specs.Job.{meant}
 use Rattle.hex.specs.Digit.{digitOf, byteOf, nibble}
@@ -36,7 +38,7 @@ abbrev means : List ℕ → List ℕ → ℕ × List ℕ
 means out text = (short (multiplyMeans text out .0), multiplyMeans text out .1)
 
 texts : (means (printed 48) (input 48) ≡ (0, printed 48)) × (means (printed 48) (input 49) ≡ (0, printed 49))
-unfolding multiplyMeans placed laid multiplyText answerText productText framesOf multiplyTests productTests formTests matrixTests headTests above restOf wordsIn sizeIn linesOf wordsRead misread lineLong readHeaderTests sizeOf headerOf unframed undigit valueOf hexOf nibble byteOf digitOf steps blocks each many meant total faults over first padded stray encode plane joined tab words wide planes any
+unfolding multiplyMeans placed laid multiplyText answerText productText framesOf multiplyTests productTests formTests matrixTests headTests above restOf wordsIn sizeIn linesOf wordsRead misread lineLong readHeaderTests sizeOf headerOf unframed undigit valueOf hexOf nibble byteOf digitOf steps blocks each many meant defaultWidth cheapest better quote sum total faults over first padded stray encode plane joined tab words wide planes any
 texts = (refl, refl)
 
 pub multiply-shown-out : ShownOut {X = List ℕ} {I = List ℕ} {S = List ℕ} short (λ out text. (short (multiplyMeans text out .0), multiplyMeans text out .1))

@@ -207,5 +207,5 @@ prints-little text = go (first (multiplyTests text)) refl
     go zero e =
         let h = form-passes text e in
         let d = lines-short (sizeIn text .rows) (sizeIn (restOf text) .columns) (few text (first-passes text h)) (narrow (restOf text) (second-passes text h)) in
-        omega (arith, d, frames-long (productSize (sizeIn text) (sizeIn (restOf text))) (encode (sizeIn text .rows) (sizeIn (restOf text) .columns) (schoolbook (sizeIn text .columns) (cell (sizeIn text .columns) (wordsIn text)) (cell (sizeIn (restOf text) .columns) (wordsIn (restOf text))))) (totalOf (sizeIn text) (meant 0) (wordsIn text)))
+        omega (arith, d, frames-long (productSize (sizeIn text) (sizeIn (restOf text))) (encode (sizeIn text .rows) (sizeIn (restOf text) .columns) (schoolbook (sizeIn text .columns) (cell (sizeIn text .columns) (wordsIn text)) (cell (sizeIn (restOf text) .columns) (wordsIn (restOf text))))) (totalOf (sizeIn text) (meant (sizeIn text) 0) (wordsIn text)))
     go (suc k) e = omega (arith, refusal-long (suc k))

@@ -34,7 +34,7 @@ module _ (text : List ℕ) (x y : Size) (a b : List ℕ) (form : 0 ≡ first (fo
   unfolding multiplyTests formTests matrixTests headTests readHeaderTests
   multiply-tests = rw (ex, ey, ea, eb) (sym (append-none (formTests text) _ tt (sym form)))
 
-  pub product-printed : (out ws : List ℕ) (total : ℕ) → 0 ≡ first (productTests x y a b) → total ≡ totalOf x (meant 0) a → ws ≡ encode (x .rows) (y .columns) (schoolbook (x .columns) (cell (x .columns) a) (cell (y .columns) b))
+  pub product-printed : (out ws : List ℕ) (total : ℕ) → 0 ≡ first (productTests x y a b) → total ≡ totalOf x (meant x 0) a → ws ≡ encode (x .rows) (y .columns) (schoolbook (x .columns) (cell (x .columns) a) (cell (y .columns) b))
       → printed (framesOf (productSize x y) ws total) out ≡ multiplyMeans text out
   unfolding multiplyMeans multiplyText answerText productText
   product-printed out ws total none et ew =

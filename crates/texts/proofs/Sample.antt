@@ -13,7 +13,8 @@ use Rattle.requests.specs.Answers.{first}
 use Rattle.requests.specs.Sizes.{over}
 use Rattle.requests.specs.Faults.{faults}
 use Rattle.steps.specs.Matrix.{schoolbook}
-use Rattle.steps.specs.Count.{total}
+use Rattle.steps.specs.Count.{quote, total}
+use Rattle.steps.specs.Width.{better, cheapest, defaultWidth}
 use Rattle.steps.specs.StepList.{unless0, many, each, tableSteps, rowSteps, blockSteps, blocks, blockWidth, steps}
 use Rattle.matrix.specs.Job.{meant}
 use Rattle.hex.specs.Digit.{digitOf, byteOf, nibble}
@@ -39,10 +40,10 @@ output =
     48 ∷ 48 ∷ 48 ∷ 50 ∷ 48 ∷ 48 ∷ 48 ∷ 50 ∷ 10 ∷
     48 ∷ 48 ∷ 48 ∷ 48 ∷ 48 ∷ 48 ∷ 48 ∷ 48 ∷ 48 ∷ 48 ∷ 48 ∷ 48 ∷ 48 ∷ 48 ∷ 48 ∷ 51 ∷ 48 ∷ 48 ∷ 48 ∷ 48 ∷ 48 ∷ 48 ∷ 48 ∷ 48 ∷ 48 ∷ 48 ∷ 48 ∷ 48 ∷ 48 ∷ 48 ∷ 48 ∷ 51 ∷ 10 ∷
     48 ∷ 48 ∷ 48 ∷ 48 ∷ 48 ∷ 48 ∷ 48 ∷ 48 ∷ 48 ∷ 48 ∷ 48 ∷ 48 ∷ 48 ∷ 48 ∷ 48 ∷ 49 ∷ 48 ∷ 48 ∷ 48 ∷ 48 ∷ 48 ∷ 48 ∷ 48 ∷ 48 ∷ 48 ∷ 48 ∷ 48 ∷ 48 ∷ 48 ∷ 48 ∷ 48 ∷ 49 ∷ 10 ∷
-    48 ∷ 48 ∷ 48 ∷ 48 ∷ 48 ∷ 48 ∷ 48 ∷ 98 ∷ 10 ∷ []
+    48 ∷ 48 ∷ 48 ∷ 48 ∷ 48 ∷ 48 ∷ 48 ∷ 55 ∷ 10 ∷ []
 
 sample : multiplyText input ≡ output
-unfolding input output multiplyText answerText productText framesOf refusal multiplyTests productTests formTests matrixTests headTests above restOf wordsIn sizeIn linesOf wordsRead misread lineAt lineLong wordsOf lineOf readHeaderTests sizeOf headerOf unframed undigit valueOf hexOf nibble byteOf digitOf steps blockWidth blocks blockSteps rowSteps tableSteps each many unless0 bitsOf meant total schoolbook sum faults over first padded stray encode plane joined tab cell sign unit bitAt words wide planes wordOf signOf unitOf is bit any
+unfolding input output multiplyText answerText productText framesOf refusal multiplyTests productTests formTests matrixTests headTests above restOf wordsIn sizeIn linesOf wordsRead misread lineAt lineLong wordsOf lineOf readHeaderTests sizeOf headerOf unframed undigit valueOf hexOf nibble byteOf digitOf steps blockWidth blocks blockSteps rowSteps tableSteps each many unless0 bitsOf meant defaultWidth cheapest better quote total schoolbook sum faults over first padded stray encode plane joined tab cell sign unit bitAt words wide planes wordOf signOf unitOf is bit any
 sample = refl
 
 -- the reading goes on to the sample's end, stops with one byte more, and stops at the word hello without an end

@@ -2,7 +2,7 @@
 use mathlib.Core.Path.{_≡_, refl, sym, ap, _∙_}
 use mathlib.Core.Bool.{Bool, true, false, true≢false, not, _||_}
 use mathlib.Core.List.{List, [], _∷_, _++_}
-use Prim.Native.Nat.{ℕ, suc, _+_, _*_, _≤_, _<_}
+use Prim.Native.Nat.{ℕ, suc, _+_, _*_, _^_, _≤_, _<_}
 use native.Mathlib.Nat.{suc-mul, mul-le-mul, mul-le-mul-right}
 use native.Mathlib.Omega.{arith}
 use lib.Dec.{ltb, eqb}
@@ -11,11 +11,12 @@ use lib.Seq.{drop-drop}
 use borrow.Author.Tests.{ltb-false, le-ltb, ne-eqb, eq-eqb}
 use Rattle.cells.specs.Any.{any}
 use Rattle.cells.proofs.AnyLaws.{or-left, or-right, any-next, any-found}
-use Rattle.buffers.specs.Buffer.{planes, wide, joined}
+use Rattle.buffers.specs.Buffer.{planes, wide, words, joined}
 use Rattle.buffers.proofs.SizeLaws.{planes-le}
 use Rattle.buffers.proofs.BufferLaws.{length-tab, length-joined}
 use Rattle.requests.specs.Answers.{first, left, answered}
 use Rattle.requests.proofs.AnswerLaws.{here, later, refused, finished, refusal-keeps, done-makes, append-given, append-none, first-none}
+use Rattle.walk.proofs.CountLaws.{pow-small}
 use Rattle.hex.specs.Line.{hexOf, unframed}
 use Rattle.hex.proofs.HexLaws.{framed}
 use Rattle.frames.specs.Header.{sizeOf, readHeaderTests, readHeaderMeans}
@@ -194,6 +195,11 @@ unfolding planes
 few-words r c q few narrow e =
     let h : q ≤ 2 = omega arith in
     (h, mul-le-mul {n₂ = 128} {m₂ = 4} few (omega arith), mul-le-mul {n₂ = 128} {m₂ = 65} few (omega arith))
+
+-- a table of the widest default
+pub table-small : (k c : ℕ) → k ≤ 8 → c ≤ 128 → words (2 ^ k) c ≤ 1024
+unfolding words wide planes
+table-small k c h narrow = mul-le-mul {n₂ = 256} {m₂ = 4} (pow-small k h) (omega arith)
 
 -- ---- lines that are written
 

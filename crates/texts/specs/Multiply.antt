@@ -36,7 +36,7 @@ framesOf s ws total = headerOf s ++ (linesOf (s .rows) (s .columns) ws ++ (hexOf
 -- the schoolbook product of x and y, and the exact total at the default width
 unfoldable pub productText : Size → Size → List ℕ → List ℕ → List ℕ
 productText x y a b =
-    framesOf (productSize x y) (encode (x .rows) (y .columns) (schoolbook (x .columns) (cell (x .columns) a) (cell (y .columns) b))) (totalOf x (meant 0) a)
+    framesOf (productSize x y) (encode (x .rows) (y .columns) (schoolbook (x .columns) (cell (x .columns) a) (cell (y .columns) b))) (totalOf x (meant x 0) a)
 
 -- .. of the two matrices in a text
 abbrev pub productIn : List ℕ → List ℕ

@@ -1,6 +1,6 @@
 // The program multiply without its reading and writing: a whole text in, a whole text out.
 ghost use mathlib.Core.Path.{_≡_};
-ghost use Prim.Native.Nat.{_≤_};
+ghost use Prim.Native.Nat.{_^_, _≤_};
 ghost use lib.ListN.{length};
 ghost use Rattle.buffers.specs.Buffer.{words, cell, encode};
 ghost use Rattle.requests.specs.Answers.{word, numberIn, first};
@@ -14,6 +14,7 @@ use super::write::refuse;
 use buffers::planes::planes;
 use matrix::product::product;
 use matrix::total::total;
+use matrix::width::width;
 use requests::Answer;
 use requests::Reason;
 use requests::Size;
@@ -86,10 +87,19 @@ fn long(s: Size) -> usize
     (s.rows as usize) * (2 * planes(s.columns as usize))
 }
 
+// How many words the table has at the default width: of at most 256 rows.
+fn own_table(x: Size, y: Size) -> usize
+    requires { ⌜ (x .rows ≤ 128) × (x .columns ≤ 128) × (y .columns ≤ 128) ⌝ }
+    ensures { λ r. ⌜ (r ≡ words (2 ^ meant x 0) (y .columns)) × (r ≤ 1024) ⌝ }
+{
+    let asked = width(x, 0);
+    (1usize << asked.width) * (2 * planes(y.columns as usize))
+}
+
 // The product at width 0, and the exact total.
 fn made(x: Size, y: Size, a: &[u64], b: &[u64], table: &mut [u64], out: &mut [u64]) -> Outcome
-    requires { ⌜ (x .rows ≤ 128) × (x .columns ≤ 128) × (y .rows ≤ 128) × (y .columns ≤ 128) × (length (now a) ≡ words (x .rows) (x .columns)) × (length (now b) ≡ words (y .rows) (y .columns)) × (length (now table) ≡ words 16 (y .columns)) × (length (now out) ≡ words (x .rows) (y .columns)) ⌝ }
-    ensures { λ r. ⌜ (numberIn (word (r .answer)) ≡ first (productTests x y (now (a .entry)) (now (b .entry)))) × (numberIn (word (r .answer)) ≡ 0 → (r .total ≡ totalOf x (meant 0) (now (a .entry))) × (now (out .exit) ≡ encode (x .rows) (y .columns) (schoolbook (x .columns) (cell (x .columns) (now (a .entry))) (cell (y .columns) (now (b .entry)))))) ⌝ }
+    requires { ⌜ (x .rows ≤ 128) × (x .columns ≤ 128) × (y .rows ≤ 128) × (y .columns ≤ 128) × (length (now a) ≡ words (x .rows) (x .columns)) × (length (now b) ≡ words (y .rows) (y .columns)) × (length (now table) ≡ words (2 ^ meant x 0) (y .columns)) × (length (now out) ≡ words (x .rows) (y .columns)) ⌝ }
+    ensures { λ r. ⌜ (numberIn (word (r .answer)) ≡ first (productTests x y (now (a .entry)) (now (b .entry)))) × (numberIn (word (r .answer)) ≡ 0 → (r .total ≡ totalOf x (meant x 0) (now (a .entry))) × (now (out .exit) ≡ encode (x .rows) (y .columns) (schoolbook (x .columns) (cell (x .columns) (now (a .entry))) (cell (y .columns) (now (b .entry)))))) ⌝ }
 {
     let f = product(x, y, 0, a, b, table, out);
     if word(f) != 0 {
@@ -105,7 +115,7 @@ fn made(x: Size, y: Size, a: &[u64], b: &[u64], table: &mut [u64], out: &mut [u6
     }
 }
 
-// With room for the largest matrices within the limit: 512 words each, and a table of 64.
+// With room for the largest matrices within the limit: 512 words each, and a table of 1,024.
 fn answer(
     text: &[u8],
     out: &mut [u8],
@@ -114,7 +124,7 @@ fn answer(
     table: &mut [u64],
     product: &mut [u64],
 ) -> usize
-    requires { ⌜ (length (now a) ≡ 512) × (length (now b) ≡ 512) × (length (now table) ≡ 64) × (length (now product) ≡ 512) ⌝ }
+    requires { ⌜ (length (now a) ≡ 512) × (length (now b) ≡ 512) × (length (now table) ≡ 1024) × (length (now product) ≡ 512) ⌝ }
     ensures { λ r. ⌜ (r, now (out .exit)) ≡ multiplyMeans (now (text .entry)) (now (out .entry)) ⌝ }
 {
     let form = matrices(text, a, b);
@@ -129,7 +139,7 @@ fn answer(
         columns: y.columns,
     };
     let n = long(p);
-    let t = 16 * (2 * planes(y.columns as usize));
+    let t = own_table(x, y);
     let made = made(
         x,
         y,
@@ -151,7 +161,7 @@ pub fn multiply(text: &[u8], out: &mut [u8]) -> usize
 {
     let mut a = [0u64; 512];
     let mut b = [0u64; 512];
-    let mut table = [0u64; 64];
+    let mut table = [0u64; 1024];
     let mut product = [0u64; 512];
     answer(text, out, &mut a, &mut b, &mut table, &mut product)
 }

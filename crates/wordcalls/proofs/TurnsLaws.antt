@@ -27,11 +27,11 @@ as-long r n M N t t₁ e f = ap length f ∙ encode-length r n N ∙ sym (encode
 
 -- all that demand 3 says of where the budgets lead
 pub reached : (x y : Size) (w : ℕ) (a b : List ℕ) → x .rows ≤ 1024 → x .columns ≤ 1024 → y .columns ≤ 1024 → w ≤ 8 → Legal (x .rows) (x .columns) a → Legal (x .columns) (y .columns) b
-    → (budgets : ℕ) (job : Job) (t p : List ℕ) → Stands x y (meant w) a b (min budgets (totalOf x (meant w) a)) job t p → Reached x y (meant w) a b budgets (job, (t, p))
+    → (budgets : ℕ) (job : Job) (t p : List ℕ) → Stands x y (meant x w) a b (min budgets (totalOf x (meant x w) a)) job t p → Reached x y (meant x w) a b budgets (job, (t, p))
 unfolding schoolbook
 reached x y w a b hm hl hn hw LA LB budgets job t p S = record {
   stands = S;
-  quoted = total-le (x .rows) (x .columns) (meant w) (cell (x .columns) a);
-  ended = λ h. rw (S .product-is ∙ end-right x y w a b hm hl hn hw LA LB (min budgets (totalOf x (meant w) a)) (omega arith))
+  quoted = total-le (x .rows) (x .columns) (meant x w) (cell (x .columns) a);
+  ended = λ h. rw (S .product-is ∙ end-right x y w a b hm hl hn hw LA LB (min budgets (totalOf x (meant x w) a)) (omega arith))
       (encode-shows (x .rows) (y .columns) _ (λ i j _ _. omega arith));
 }

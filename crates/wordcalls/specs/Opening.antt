@@ -12,5 +12,5 @@ use Rattle.matrix.specs.Record.{recordOf}
 -- the record's words, and then those of table and product
 pub record OpenedJob (x y : Size) (width : ℕ) (o : List ℕ × (List ℕ × List ℕ)) : Type 0 where
   pub record-is : o .0 ≡ recordOf (newJob x y width) 0 false
-  pub table : Shows (2 ^ meant width) (y .columns) (λ i j. 0) (o .1 .0)
+  pub table : Shows (2 ^ meant x width) (y .columns) (λ i j. 0) (o .1 .0)
   pub product : Shows (x .rows) (y .columns) (λ i j. 0) (o .1 .1)

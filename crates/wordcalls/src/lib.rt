@@ -16,4 +16,5 @@ pub mod transpose;
 pub mod turn;
 pub mod turns;
 pub mod unpack;
+pub mod width;
 pub mod witness;

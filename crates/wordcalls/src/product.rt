@@ -24,7 +24,7 @@ pub extern "C" fn call_product(
     table: &mut [u64],
     product: &mut [u64],
 ) -> u64
-    ensures { λ r. ⌜ Seen {S = List ℕ × List ℕ} (openingTests (record { rows = «a_rows»; columns = «a_columns» }) (record { rows = «b_rows»; columns = «b_columns» }) width (now (a .entry)) (now (b .entry)) (length (now (table .entry))) (length (now (product .entry)))) (now (table .entry), now (product .entry)) (λ o. Shows (2 ^ meant width) «b_columns» (endOf (record { rows = «a_rows»; columns = «a_columns» }) (record { rows = «b_rows»; columns = «b_columns» }) (meant width) (now (a .entry)) (now (b .entry)) .table) (o .0) × Shows «a_rows» «b_columns» (schoolbook «a_columns» (cell «a_columns» (now (a .entry))) (cell «b_columns» (now (b .entry)))) (o .1)) r (now (table .exit), now (product .exit)) ⌝ }
+    ensures { λ r. ⌜ Seen {S = List ℕ × List ℕ} (openingTests (record { rows = «a_rows»; columns = «a_columns» }) (record { rows = «b_rows»; columns = «b_columns» }) width (now (a .entry)) (now (b .entry)) (length (now (table .entry))) (length (now (product .entry)))) (now (table .entry), now (product .entry)) (λ o. Shows (2 ^ meant (record { rows = «a_rows»; columns = «a_columns» }) width) «b_columns» (endOf (record { rows = «a_rows»; columns = «a_columns» }) (record { rows = «b_rows»; columns = «b_columns» }) (meant (record { rows = «a_rows»; columns = «a_columns» }) width) (now (a .entry)) (now (b .entry)) .table) (o .0) × Shows «a_rows» «b_columns» (schoolbook «a_columns» (cell «a_columns» (now (a .entry))) (cell «b_columns» (now (b .entry)))) (o .1)) r (now (table .exit), now (product .exit)) ⌝ }
 {
     let x = Size {
         rows: a_rows,

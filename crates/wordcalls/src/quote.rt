@@ -8,7 +8,7 @@ use requests::word;
 
 #[no_mangle]
 pub extern "C" fn call_quote(rows: u64, columns: u64, width: u64, count: &mut u64) -> u64
-    ensures { λ r. ⌜ Exact (quoteTests (record { rows = rows; columns = columns }) width) 0 (quote rows columns (meant width)) r (now (count .exit)) ⌝ }
+    ensures { λ r. ⌜ Exact (quoteTests (record { rows = rows; columns = columns }) width) 0 (quote rows columns (meant (record { rows = rows; columns = columns }) width)) r (now (count .exit)) ⌝ }
 {
     let s = Size {
         rows: rows,

@@ -13,7 +13,7 @@ use requests::word;
 
 #[no_mangle]
 pub extern "C" fn call_total(rows: u64, columns: u64, width: u64, a: &[u64], count: &mut u64) -> u64
-    ensures { λ r. ⌜ Seen (totalTests (record { rows = rows; columns = columns }) width (now (a .entry))) 0 (λ n. (n ≡ length (steps rows columns (meant width) (cell columns (now (a .entry))))) × (n ≤ quote rows columns (meant width))) r (now (count .exit)) ⌝ }
+    ensures { λ r. ⌜ Seen (totalTests (record { rows = rows; columns = columns }) width (now (a .entry))) 0 (λ n. (n ≡ length (steps rows columns (meant (record { rows = rows; columns = columns }) width) (cell columns (now (a .entry))))) × (n ≤ quote rows columns (meant (record { rows = rows; columns = columns }) width))) r (now (count .exit)) ⌝ }
 {
     let s = Size {
         rows: rows,

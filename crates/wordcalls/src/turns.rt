@@ -29,8 +29,8 @@ fn turns(
     product: &mut [u64],
     budgets: &[u32],
 ) -> Job
-    requires { ⌜ («a_rows» ≤ 1024) × («a_columns» ≤ 1024) × («b_columns» ≤ 1024) × (width ≤ 8) × Legal «a_rows» «a_columns» (now a) × Legal «a_columns» «b_columns» (now b) × Stands (record { rows = «a_rows»; columns = «a_columns» }) (record { rows = «b_rows»; columns = «b_columns» }) (meant width) (now a) (now b) 0 new (now table) (now product) ⌝ }
-    ensures { λ r. ⌜ Stands (record { rows = «a_rows»; columns = «a_columns» }) (record { rows = «b_rows»; columns = «b_columns» }) (meant width) (now (a .entry)) (now (b .entry)) (min (allBudgets (now (budgets .entry))) (totalOf (record { rows = «a_rows»; columns = «a_columns» }) (meant width) (now (a .entry)))) r (now (table .exit)) (now (product .exit)) ⌝ }
+    requires { ⌜ («a_rows» ≤ 1024) × («a_columns» ≤ 1024) × («b_columns» ≤ 1024) × (width ≤ 8) × Legal «a_rows» «a_columns» (now a) × Legal «a_columns» «b_columns» (now b) × Stands (record { rows = «a_rows»; columns = «a_columns» }) (record { rows = «b_rows»; columns = «b_columns» }) (meant (record { rows = «a_rows»; columns = «a_columns» }) width) (now a) (now b) 0 new (now table) (now product) ⌝ }
+    ensures { λ r. ⌜ Stands (record { rows = «a_rows»; columns = «a_columns» }) (record { rows = «b_rows»; columns = «b_columns» }) (meant (record { rows = «a_rows»; columns = «a_columns» }) width) (now (a .entry)) (now (b .entry)) (min (allBudgets (now (budgets .entry))) (totalOf (record { rows = «a_rows»; columns = «a_columns» }) (meant (record { rows = «a_rows»; columns = «a_columns» }) width) (now (a .entry)))) r (now (table .exit)) (now (product .exit)) ⌝ }
 {
     let mut job = new;
     let mut i = 0;
@@ -63,7 +63,7 @@ pub fn in_turns(
     product: &mut [u64],
     budgets: &[u32],
 ) -> Opened
-    ensures { λ r. ⌜ Seen (openingTests (record { rows = «a_rows»; columns = «a_columns» }) (record { rows = «b_rows»; columns = «b_columns» }) width (now (a .entry)) (now (b .entry)) (length (now (table .entry))) (length (now (product .entry)))) (noJob, (now (table .entry), now (product .entry))) (Reached (record { rows = «a_rows»; columns = «a_columns» }) (record { rows = «b_rows»; columns = «b_columns» }) (meant width) (now (a .entry)) (now (b .entry)) (allBudgets (now (budgets .entry)))) (opened r (now (table .exit)) (now (product .exit)) .0) (opened r (now (table .exit)) (now (product .exit)) .1) ⌝ }
+    ensures { λ r. ⌜ Seen (openingTests (record { rows = «a_rows»; columns = «a_columns» }) (record { rows = «b_rows»; columns = «b_columns» }) width (now (a .entry)) (now (b .entry)) (length (now (table .entry))) (length (now (product .entry)))) (noJob, (now (table .entry), now (product .entry))) (Reached (record { rows = «a_rows»; columns = «a_columns» }) (record { rows = «b_rows»; columns = «b_columns» }) (meant (record { rows = «a_rows»; columns = «a_columns» }) width) (now (a .entry)) (now (b .entry)) (allBudgets (now (budgets .entry)))) (opened r (now (table .exit)) (now (product .exit)) .0) (opened r (now (table .exit)) (now (product .exit)) .1) ⌝ }
 {
     let x = Size {
         rows: a_rows,

@@ -18,7 +18,7 @@ pub fn quoted_and_counted(
     quoted: &mut u64,
     counted: &mut u64,
 ) -> u64
-    ensures { λ r. ⌜ (None (quoteTests s width) → now (a .entry) ≡ witnessWords s → (r ≡ 0) × (now (quoted .exit) ≡ quote (s .rows) (s .columns) (meant width)) × (now (counted .exit) ≡ now (quoted .exit))) ⌝ }
+    ensures { λ r. ⌜ (None (quoteTests s width) → now (a .entry) ≡ witnessWords s → (r ≡ 0) × (now (quoted .exit) ≡ quote (s .rows) (s .columns) (meant s width)) × (now (counted .exit) ≡ now (quoted .exit))) ⌝ }
 {
     let first = quote(s, width);
     *quoted = first.steps;

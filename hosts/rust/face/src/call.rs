@@ -7,19 +7,27 @@ pub enum Name {
     Difference,
     Negation,
     Product,
+    Width,
+    Quote,
     Open,
     Turn,
 }
 
-pub const NAMES: [Name; 7] = [Name::Check, Name::Sum, Name::Difference, Name::Negation, Name::Product, Name::Open, Name::Turn];
+pub const NAMES: [Name; 9] =
+    [Name::Check, Name::Sum, Name::Difference, Name::Negation, Name::Product, Name::Width, Name::Quote, Name::Open, Name::Turn];
 
 impl Name {
     pub fn text(self) -> &'static str {
-        ["check", "sum", "difference", "negation", "product", "open", "turn"][self as usize]
+        ["check", "sum", "difference", "negation", "product", "width", "quote", "open", "turn"][self as usize]
     }
 
     pub fn has_b(self) -> bool {
-        !matches!(self, Name::Check | Name::Negation)
+        !matches!(self, Name::Check | Name::Negation | Name::Width | Name::Quote)
+    }
+
+    /// Whether it gives a count, from A's sizes and a width.
+    pub fn counts(self) -> bool {
+        matches!(self, Name::Width | Name::Quote)
     }
 
     pub fn is_job(self) -> bool {
@@ -29,6 +37,7 @@ impl Name {
     /// The buffers whose cells it looks at.
     pub fn looks_at(self) -> usize {
         match self {
+            Name::Width | Name::Quote => 0,
             Name::Check | Name::Negation => 1,
             Name::Turn => 4,
             _ => 2,
@@ -45,13 +54,14 @@ impl Name {
         match self {
             Name::Check | Name::Negation => &[0, 1, 4, 5, 6, 11],
             Name::Sum | Name::Difference | Name::Product => &[0, 1, 2, 4, 5, 6, 11],
+            Name::Width | Name::Quote => &[0, 1, 3, 4, 11],
             Name::Open => &[0, 1, 2, 3, 4, 5, 6, 11],
             Name::Turn => &[0, 1, 3, 4, 5, 6, 7, 11],
         }
     }
 }
 
-/// Buffers that a call does not have are empty. `product` stands for every result. Sizes of a turn stand in its record.
+/// Buffers that a call does not have are empty. `product` stands for every result, a count too. Sizes of a turn stand in its record.
 #[derive(Clone, Debug)]
 pub struct Call {
     pub name: Name,

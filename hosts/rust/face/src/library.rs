@@ -44,6 +44,8 @@ mod c {
             product: *mut u8,
             product_bytes: usize,
         ) -> u64;
+        pub fn nyuzolamba_width(a_rows: u64, a_columns: u64, width: u64, meant: *mut u8, meant_bytes: usize) -> u64;
+        pub fn nyuzolamba_quote(a_rows: u64, a_columns: u64, width: u64, steps: *mut u8, steps_bytes: usize) -> u64;
         pub fn nyuzolamba_open(
             a_rows: u64,
             a_columns: u64,
@@ -95,6 +97,14 @@ pub fn negation(size: Size, a: &[u8], out: &mut [u8]) -> u64 {
 
 pub fn product(x: Size, y: Size, a: &[u8], b: &[u8], out: &mut [u8]) -> u64 {
     unsafe { c::nyuzolamba_product(x.0, x.1, y.0, y.1, a.as_ptr(), a.len(), b.as_ptr(), b.len(), out.as_mut_ptr(), out.len()) }
+}
+
+pub fn width(x: Size, width: u64, meant: &mut [u8]) -> u64 {
+    unsafe { c::nyuzolamba_width(x.0, x.1, width, meant.as_mut_ptr(), meant.len()) }
+}
+
+pub fn quote(x: Size, width: u64, steps: &mut [u8]) -> u64 {
+    unsafe { c::nyuzolamba_quote(x.0, x.1, width, steps.as_mut_ptr(), steps.len()) }
 }
 
 /// What an opening or a turn writes.

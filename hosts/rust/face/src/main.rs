@@ -20,6 +20,8 @@ mod making;
 mod meaning;
 #[path = "../../common/options.rs"]
 mod options;
+#[path = "../../common/quotes.rs"]
+mod quotes;
 #[path = "../../common/random.rs"]
 mod random;
 #[path = "../../common/refusals.rs"]

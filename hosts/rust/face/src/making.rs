@@ -4,6 +4,7 @@
 use crate::call::{bytes, words, Call, Name, NAMES};
 use crate::digits::{list, words_of_plane, Digits};
 use crate::guard::noise;
+use crate::quotes::default_width;
 use crate::random::Random;
 use crate::spoil;
 
@@ -69,7 +70,7 @@ fn plan(random: &mut Random, name: Name) -> Plan {
         name,
         a_size: (m, l),
         b_size: if matches!(name, Name::Sum | Name::Difference) { (m, l) } else { (l, n) },
-        width: if name == Name::Open && random.once_in(3) { 0 } else { 1 + random.below(8) as u64 },
+        width: if (name == Name::Open || name.counts()) && random.once_in(3) { 0 } else { 1 + random.below(8) as u64 },
     }
 }
 
@@ -85,7 +86,7 @@ impl Plan {
 
     fn table_rows(&self) -> u64 {
         match self.width {
-            0 => 16,
+            0 => 1 << default_width(self.a_size.0, self.a_size.1),
             1..=8 => 1 << self.width,
             _ => 2,
         }
@@ -134,15 +135,15 @@ pub fn single(random: &mut Random) -> Call {
             *plan.count(random) = random.of(&BIG);
         }
     }
-    if has(Fault::Width) && name.is_job() {
+    if has(Fault::Width) && (name.is_job() || name.counts()) {
         plan.width = if name == Name::Turn && random.once_in(2) { 0 } else { random.of(&WIDE) };
     }
     let mut call = made(random, &plan);
     call.shared = shared;
     for fault in &faults {
         match fault {
-            Fault::Stray => cells(random, &mut call, &plan, true),
-            Fault::Padding => cells(random, &mut call, &plan, false),
+            Fault::Stray if name.looks_at() > 0 => cells(random, &mut call, &plan, true),
+            Fault::Padding if name.looks_at() > 0 => cells(random, &mut call, &plan, false),
             Fault::Cells => many_cells(random, &mut call, &plan),
             Fault::Noise if random.once_in(2) => {
                 let length = any_buffer(random, &mut call).len();
@@ -178,6 +179,7 @@ fn made(random: &mut Random, plan: &Plan) -> Call {
         Name::Product | Name::Open | Name::Turn => (a.0, b.1),
         _ => a,
     };
+    let counts = plan.name.counts();
     Call {
         name: plan.name,
         a_size: a,
@@ -185,14 +187,18 @@ fn made(random: &mut Random, plan: &Plan) -> Call {
         width: plan.width,
         budget: random.budget(),
         record: if job { noise(random, 56) } else { Vec::new() },
-        a: legal(random, a.0, a.1),
+        a: if counts { Vec::new() } else { legal(random, a.0, a.1) },
         b: if plan.name.has_b() { legal(random, b.0, b.1) } else { Vec::new() },
         table: match (job, turn) {
             (false, _) => Vec::new(),
             (true, true) => legal(random, plan.table_rows(), b.1),
             (true, false) => overwritten(random, plan.table_rows(), b.1),
         },
-        product: if turn { legal(random, result.0, result.1) } else { overwritten(random, result.0, result.1) },
+        product: match (turn, counts) {
+            (true, _) => legal(random, result.0, result.1),
+            (_, true) => noise(random, 8),
+            _ => overwritten(random, result.0, result.1),
+        },
         shared: false,
     }
 }
@@ -228,6 +234,7 @@ fn record(random: &mut Random, plan: &Plan, a: &[u8], beyond: bool) -> Vec<u8> {
 fn any_buffer<'a>(random: &mut Random, call: &'a mut Call) -> &'a mut Vec<u8> {
     let has_b = call.name.has_b() && !call.shared;
     match random.below(6) {
+        _ if call.name.counts() => &mut call.product,
         0 | 1 => &mut call.a,
         2 | 3 if has_b => &mut call.b,
         4 if call.name.is_job() => &mut call.table,

@@ -3,6 +3,7 @@
 
 use crate::call::{bytes, words, Call, Name, Written};
 use crate::digits::{faults, list, product, walk, words_of_plane, Digits};
+use crate::quotes::{default_width, quote};
 use crate::refusals::{of_cells, Refusal};
 
 /// Every test that holds, in document 01's order; the first is the answer, none means done. A test that needs an earlier one to have
@@ -22,13 +23,13 @@ pub fn refusals(call: &Call) -> Vec<Refusal> {
         (11, counts.iter().any(|count| (65..=1024).contains(count))),
         (2, misfit(call)),
         (3, width > 8 || width == 0),
-        (4, buffers.iter().any(|buffer| buffer.length().map_or(false, |length| length != buffer.bytes.len()))),
+        (4, unlike_count(call) || buffers.iter().any(|buffer| buffer.length().map_or(false, |length| length != buffer.bytes.len()))),
     ];
     found.extend(tests.iter().filter(|(_, holds)| *holds).map(|(number, _)| Refusal::without_place(*number)));
     for (before, buffer) in buffers.iter().enumerate().filter(|(_, buffer)| buffer.read && buffer.fits()) {
         found.extend(of_cells(before + 1, buffer.rows as usize, buffer.columns as usize, &words(buffer.bytes)));
     }
-    found.extend(beyond(call, &buffers[0], width).then(|| Refusal::without_place(7)));
+    found.extend((call.name == Name::Turn && beyond(call, &buffers[0], width)).then(|| Refusal::without_place(7)));
     found
 }
 
@@ -36,10 +37,20 @@ pub fn refusals(call: &Call) -> Vec<Refusal> {
 fn asked(call: &Call) -> (Vec<u64>, u64) {
     let (a, b) = (call.a_size, call.b_size);
     match call.name {
-        Name::Check | Name::Negation => (vec![a.0, a.1], 4),
         Name::Turn => (words(&call.record)[0..3].to_vec(), words(&call.record)[3]),
-        Name::Open if call.width != 0 => (vec![a.0, a.1, b.0, b.1], call.width),
-        _ => (vec![a.0, a.1, b.0, b.1], 4),
+        Name::Open => (vec![a.0, a.1, b.0, b.1], meant(call)),
+        Name::Width | Name::Quote => (vec![a.0, a.1], meant(call)),
+        // These have no width; any that is none of the refused ones will do.
+        Name::Check | Name::Negation => (vec![a.0, a.1], 1),
+        _ => (vec![a.0, a.1, b.0, b.1], 1),
+    }
+}
+
+/// What the width that was handed in means.
+fn meant(call: &Call) -> u64 {
+    match call.width {
+        0 => default_width(call.a_size.0, call.a_size.1),
+        width => width,
     }
 }
 
@@ -51,9 +62,14 @@ fn misfit(call: &Call) -> bool {
     }
 }
 
+/// A count is one word.
+fn unlike_count(call: &Call) -> bool {
+    call.name.counts() && call.product.len() != 8
+}
+
 /// Whether a record's steps done exceed the list's length. A stray sign in A is no digit: then there is no list to count.
 fn beyond(call: &Call, a: &Buffer, width: u64) -> bool {
-    if call.name != Name::Turn || !(1..=8).contains(&width) || !a.fits() {
+    if !(1..=8).contains(&width) || !a.fits() {
         return false;
     }
     let (rows, columns, held) = (a.rows as usize, a.columns as usize, words(a.bytes));
@@ -90,6 +106,7 @@ fn buffers<'a>(call: &'a Call, counts: &[u64], width: u64) -> Vec<Buffer<'a>> {
     let table_rows = if (1..=8).contains(&width) { 1 << width } else { u64::MAX };
     let last = *counts.last().unwrap();
     match call.name {
+        Name::Width | Name::Quote => Vec::new(),
         Name::Check => vec![a(&call.a, true)],
         Name::Negation => vec![a(&call.a, true), a(&call.product, false)],
         Name::Sum | Name::Difference => vec![a(&call.a, true), buffer(&call.b, counts[2], last, true), a(&call.product, false)],
@@ -113,10 +130,11 @@ pub fn done(call: &Call) -> Written {
     let digits = |size: (u64, u64), buffer: &[u8]| Digits::of_words(size.0 as usize, size.1 as usize, &words(buffer));
     match call.name {
         Name::Check => {}
+        Name::Width => left.product = bytes(&[meant(call)]),
+        Name::Quote => left.product = bytes(&[quote(call.a_size.0, call.a_size.1, meant(call))]),
         Name::Turn => turned(call, &mut left),
         Name::Open => {
-            let width = if call.width == 0 { 4 } else { call.width };
-            left.record = bytes(&[call.a_size.0, call.a_size.1, call.b_size.1, width, 0, 0, 0]);
+            left.record = bytes(&[call.a_size.0, call.a_size.1, call.b_size.1, meant(call), 0, 0, 0]);
             left.table = vec![0; call.table.len()];
             left.product = vec![0; call.product.len()];
         }

@@ -38,6 +38,8 @@ pub fn carry_out(random: &mut Random, call: &Call) -> Trial {
             Name::Difference => library::difference(x, y, a, b, product.part()),
             Name::Negation => library::negation(x, a, product.part()),
             Name::Product => library::product(x, y, a, b, product.part()),
+            Name::Width => library::width(x, call.width, product.part()),
+            Name::Quote => library::quote(x, call.width, product.part()),
             Name::Open | Name::Turn => {
                 let job = Job { record: record.part(), table: table.part(), product: product.part() };
                 if call.name == Name::Open {

@@ -1,6 +1,7 @@
 //! One request with all that is handed in.
 
 use crate::digits::words_of_plane;
+use crate::quotes::default_width;
 
 #[derive(Clone, Copy, PartialEq, Debug)]
 pub enum Name {
@@ -13,6 +14,7 @@ pub enum Name {
     Scaling,
     Transpose,
     Tally,
+    Width,
     Quote,
     Total,
     Opening,
@@ -20,7 +22,7 @@ pub enum Name {
     Product,
 }
 
-pub const NAMES: [Name; 14] = [
+pub const NAMES: [Name; 15] = [
     Name::Check,
     Name::Pack,
     Name::Unpack,
@@ -30,6 +32,7 @@ pub const NAMES: [Name; 14] = [
     Name::Scaling,
     Name::Transpose,
     Name::Tally,
+    Name::Width,
     Name::Quote,
     Name::Total,
     Name::Opening,
@@ -59,6 +62,7 @@ impl Name {
             "scaling",
             "transpose",
             "tally",
+            "width",
             "quote",
             "total",
             "opening",
@@ -70,7 +74,7 @@ impl Name {
     /// The buffers whose contents it reads, in the order in which they are looked at.
     pub fn reads(self) -> &'static [Part] {
         match self {
-            Name::Quote => &[],
+            Name::Width | Name::Quote => &[],
             Name::Pack => &[Part::Cells],
             Name::Sum | Name::Difference | Name::Opening | Name::Product => &[Part::A, Part::B],
             Name::Turn => &[Part::A, Part::B, Part::Table, Part::Result],
@@ -81,7 +85,7 @@ impl Name {
     /// The buffers that it only overwrites.
     pub fn overwrites(self) -> &'static [Part] {
         match self {
-            Name::Check | Name::Tally | Name::Quote | Name::Total | Name::Turn => &[],
+            Name::Check | Name::Tally | Name::Width | Name::Quote | Name::Total | Name::Turn => &[],
             Name::Unpack => &[Part::Cells],
             Name::Opening | Name::Product => &[Part::Table, Part::Result],
             _ => &[Part::Result],
@@ -98,14 +102,14 @@ impl Name {
     }
 
     pub fn has_width(self) -> bool {
-        self.multiplies() || matches!(self, Name::Quote | Name::Total)
+        self.multiplies() || matches!(self, Name::Width | Name::Quote | Name::Total)
     }
 
-    /// The words that come back beside the answer: a tally's counts and its yes or no, steps, a record.
+    /// The words that come back beside the answer: a tally's counts and its yes or no, a width, steps, a record.
     pub fn given(self) -> usize {
         match self {
             Name::Tally => 4,
-            Name::Quote | Name::Total => 1,
+            Name::Width | Name::Quote | Name::Total => 1,
             Name::Opening | Name::Turn => 7,
             _ => 0,
         }
@@ -125,7 +129,7 @@ impl Name {
             Name::Pack => &[0, 1, 4, 8],
             Name::Sum | Name::Difference => &[0, 1, 2, 4, 5, 6],
             Name::Scaling => &[0, 1, 4, 8, 5, 6],
-            Name::Quote => &[0, 1, 3],
+            Name::Width | Name::Quote => &[0, 1, 3],
             Name::Total => &[0, 1, 3, 4, 5, 6],
             Name::Opening | Name::Product => &[0, 1, 2, 3, 4, 5, 6],
             Name::Turn => &[0, 1, 3, 4, 5, 6, 7],
@@ -175,7 +179,7 @@ impl Call {
     /// The width meant; none where it is out of range.
     pub fn meant(&self) -> Option<usize> {
         match self.width {
-            0 if self.name != Name::Turn => Some(4),
+            0 if self.name != Name::Turn => Some(default_width(self.a_size.0, self.a_size.1) as usize),
             1..=8 => Some(self.width as usize),
             _ => None,
         }

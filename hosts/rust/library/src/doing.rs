@@ -2,6 +2,7 @@
 
 use crate::call::{Call, Name, Part, Written};
 use crate::digits::{list, product, walk, Digits, Step};
+use crate::quotes::quote;
 
 /// The digits of one of an accepted call's matrices.
 fn digits(call: &Call, part: Part) -> Digits {
@@ -32,7 +33,8 @@ pub fn done(call: &Call) -> Written {
         Name::Scaling => left.result = singles(call, |x| call.digit * x),
         Name::Transpose => left.result = transposed(&digits(call, Part::A)).words(),
         Name::Tally => left.given = tally(&digits(call, Part::A)),
-        Name::Quote => left.given = vec![quote(call)],
+        Name::Width => left.given = vec![width(call)],
+        Name::Quote => left.given = vec![quote(call.a_size.0, call.a_size.1, width(call))],
         Name::Total => left.given = vec![steps(call).len() as u64],
         Name::Opening => opened(call, &mut left),
         Name::Turn => turned(call, &mut left),
@@ -75,27 +77,17 @@ fn tally(row: &Digits) -> Vec<u64> {
     vec![count(0) as u64, count(1) as u64, count(2) as u64, balanced as u64]
 }
 
-/// The sum over blocks of (2^w - 1) + m times the smaller of 2 and w.
-fn quote(call: &Call) -> u64 {
-    let (m, l) = call.a_size;
-    let width = call.meant().expect("an accepted call has a width") as u64;
-    let mut sum = 0;
-    let mut first = 0;
-    while first < l {
-        let w = width.min(l - first);
-        sum += (1 << w) - 1 + m * w.min(2);
-        first += w;
-    }
-    sum
+/// The width meant by a call that is accepted.
+fn width(call: &Call) -> u64 {
+    call.meant().expect("an accepted call has a width") as u64
 }
 
 fn steps(call: &Call) -> Vec<Step> {
-    list(&digits(call, Part::A), call.meant().expect("an accepted call has a width"))
+    list(&digits(call, Part::A), width(call) as usize)
 }
 
 fn opened(call: &Call, left: &mut Written) {
-    let width = call.meant().expect("an accepted call has a width") as u64;
-    left.given = vec![call.a_size.0, call.a_size.1, call.b_size.1, width, 0, 0, 0];
+    left.given = vec![call.a_size.0, call.a_size.1, call.b_size.1, width(call), 0, 0, 0];
     left.table = vec![0; call.table.len()];
     left.result = vec![0; call.result.len()];
 }

@@ -1,4 +1,4 @@
-//! The fourteen calls of the archive as safe functions. A slice carries pointer and length together, is never null, and one that is `&mut`
+//! The fifteen calls of the archive as safe functions. A slice carries pointer and length together, is never null, and one that is `&mut`
 //! shares no word with another. What comes back beside the answer is an array of its own behind a plain pointer.
 
 /// Rows and columns.
@@ -37,6 +37,7 @@ mod c {
         pub fn call_scaling(rows: u64, columns: u64, digit: u8, a: *const u64, a_words: usize, out: *mut u64, out_words: usize) -> u64;
         pub fn call_transpose(rows: u64, columns: u64, a: *const u64, a_words: usize, out: *mut u64, out_words: usize) -> u64;
         pub fn call_tally(columns: u64, a: *const u64, a_words: usize, counts: &mut [u64; 4]) -> u64;
+        pub fn call_width(rows: u64, columns: u64, width: u64, meant: &mut u64) -> u64;
         pub fn call_quote(rows: u64, columns: u64, width: u64, steps: &mut u64) -> u64;
         pub fn call_total(rows: u64, columns: u64, width: u64, a: *const u64, a_words: usize, steps: &mut u64) -> u64;
         pub fn call_opening(
@@ -119,6 +120,10 @@ pub fn transpose(size: Size, a: &[u64], out: &mut [u64]) -> u64 {
 
 pub fn tally(columns: u64, a: &[u64], counts: &mut [u64; 4]) -> u64 {
     unsafe { c::call_tally(columns, a.as_ptr(), a.len(), counts) }
+}
+
+pub fn width(size: Size, width: u64, meant: &mut u64) -> u64 {
+    unsafe { c::call_width(size.0, size.1, width, meant) }
 }
 
 pub fn quote(size: Size, width: u64, steps: &mut u64) -> u64 {

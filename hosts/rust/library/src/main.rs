@@ -1,4 +1,4 @@
-//! A Rust host of the library itself. It links the archive of the fourteen requests over words, wraps the calls safely, and compares every call
+//! A Rust host of the library itself. It links the archive of the fifteen requests over words, wraps the calls safely, and compares every call
 //! with an implementation of its own that shares no code with the library: the answer with its number and its place, what comes back beside it, and
 //! every buffer word for word, guard words about them too, refused or not.
 //!
@@ -28,6 +28,8 @@ mod met;
 #[path = "../../common/options.rs"]
 mod options;
 mod plans;
+#[path = "../../common/quotes.rs"]
+mod quotes;
 #[path = "../../common/random.rs"]
 mod random;
 #[path = "../../common/refusals.rs"]
@@ -38,14 +40,14 @@ mod spoil;
 mod together;
 mod trial;
 
-use call::Name;
+use call::{Name, NAMES};
 use met::{Met, ENOUGH};
 use random::Random;
 use std::process::exit;
 use together::Caller;
 
 /// The requests of one round, so often that a run meets every plan of faults; then come a job and a round trip.
-const ROUND: [Name; 27] = [
+const ROUND: [Name; 29] = [
     Name::Turn,
     Name::Check,
     Name::Product,
@@ -60,6 +62,7 @@ const ROUND: [Name; 27] = [
     Name::Total,
     Name::Turn,
     Name::Quote,
+    Name::Width,
     Name::Tally,
     Name::Product,
     Name::Total,
@@ -70,6 +73,7 @@ const ROUND: [Name; 27] = [
     Name::Turn,
     Name::Scaling,
     Name::Quote,
+    Name::Width,
     Name::Sum,
     Name::Negation,
     Name::Difference,
@@ -88,7 +92,7 @@ fn main() {
     for (rows, columns) in WITNESSED {
         Caller { random: &mut Random::new(seed, 0), place: "a quote that is met", met: &mut met }.quote_met(rows, columns);
     }
-    let mut made = [0; 14];
+    let mut made = [0; NAMES.len()];
     let mut index = 0;
     while met.counts.calls < count {
         let mut random = Random::new(seed, index);

@@ -63,7 +63,7 @@ fn paired(random: &mut Random, columns: usize) -> Digits {
     row
 }
 
-/// Widths in turn, 0 among them where it means 4.
+/// Widths in turn, 0 among them where it means the default.
 pub fn width(random: &mut Random, name: Name, turn: usize) -> u64 {
     match turn as u64 % 9 {
         0 if name == Name::Turn => 1 + random.below(8) as u64,

@@ -19,9 +19,9 @@ const LEAST: u64 = 50;
 #[derive(Default)]
 pub struct Met {
     pub counts: Counts,
-    calls: [u64; 14],
+    calls: [u64; NAMES.len()],
     /// Plans of faults that were carried out, from the first on.
-    pub plans: [usize; 14],
+    pub plans: [usize; NAMES.len()],
     /// Words a plane that accepted calls had: in A's rows, and in those of what is read or written across it.
     planes: BTreeSet<(usize, bool, usize)>,
     /// What tallies of rows with columns said: whether ones and twos were equally many, and whether the row was balanced.
@@ -73,7 +73,7 @@ impl Met {
     fn planes_missing(&self, name: Name) -> Vec<String> {
         let mut never = Vec::new();
         for other in [false, true] {
-            if name == Name::Quote || other && across(name).is_none() {
+            if name.reads().is_empty() || other && across(name).is_none() {
                 continue;
             }
             for q in CLASSES.iter().filter(|q| !self.planes.contains(&(name as usize, other, **q))) {

@@ -11,7 +11,8 @@ use crate::together::Caller;
 /// Rows and columns of a plan.
 const SIDES: [usize; 3] = [64, 256, 1024];
 
-const WIDTHS: [u64; 4] = [1, 2, 4, 8];
+/// The last is the default.
+const WIDTHS: [u64; 5] = [1, 2, 4, 8, 0];
 
 /// So many plans of each size.
 const PLANS: u64 = 10;
@@ -52,8 +53,10 @@ fn line(caller: &mut Caller, plans: &[Digits], side: usize, width: u64) -> Optio
     totals.sort();
     let (low, high) = (totals[0], totals[totals.len() - 1]);
     let side = grouped(side as u64);
+    let meant = quote.meant().expect("a width in range");
+    let name = if width == 0 { format!("{meant}, the default") } else { format!("{meant}") };
     Some(format!(
-        "| {side} by {side} | {width} | {} | {} to {} | {} to {} % |",
+        "| {side} by {side} | {name} | {} | {} to {} | {} to {} % |",
         grouped(quoted),
         grouped(low),
         grouped(high),

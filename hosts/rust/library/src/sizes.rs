@@ -78,13 +78,13 @@ pub fn legal(random: &mut Random, name: Name, turn: usize) -> Sizes {
     }
     let (p, q) = if turn % 5 == 4 { (1 + random.below(16), 1 + random.below(16)) } else { (CLASSES[turn % 8], CLASSES[turn / 8 % 8]) };
     let (l, n) = (of_class(random, p), of_class(random, q));
-    let short = name.has_width() && turn % 5 == 4 || name == Name::Quote && turn % 2 == 0;
+    let short = name.has_width() && turn % 5 == 4 || name.reads().is_empty() && turn % 2 == 0;
     let l = if short { few(random) } else { l };
     let cells = if random.once_in(12) { 300_000 } else { 30_000 };
     let mut sizes = match name {
         Name::Tally => plain(1, l),
         Name::Transpose => plain(n, l),
-        Name::Quote => plain(rows(random, 1024), l),
+        Name::Width | Name::Quote => plain(rows(random, 1024), l),
         Name::Opening | Name::Turn => ((rows(random, cells / l.max(n)), l), (l, n)),
         Name::Product => ((rows(random, 100 * cells / (l * n)), l), (l, n)),
         _ => plain(rows(random, cells / l), l),
@@ -101,7 +101,7 @@ fn plain(rows: u64, columns: u64) -> Sizes {
 
 /// Whether the `turn`-th legal call is one of the few large ones. Tallies and transposes are as large without it, and jobs begin with openings.
 pub fn is_large(name: Name, turn: usize) -> bool {
-    turn % 13 == 12 && !matches!(name, Name::Tally | Name::Transpose | Name::Quote | Name::Opening)
+    turn % 13 == 12 && !matches!(name, Name::Tally | Name::Transpose | Name::Width | Name::Quote | Name::Opening)
 }
 
 fn large(name: Name, turn: usize) -> Sizes {

@@ -60,6 +60,7 @@ impl Room {
             Name::Scaling => linked::scaling(x, call.digit, a, result),
             Name::Transpose => linked::transpose(x, a, result),
             Name::Tally => linked::tally(x.1, a, array(given)),
+            Name::Width => linked::width(x, call.width, &mut array::<1>(given)[0]),
             Name::Quote => linked::quote(x, call.width, &mut array::<1>(given)[0]),
             Name::Total => linked::total(x, call.width, a, &mut array::<1>(given)[0]),
             Name::Opening | Name::Turn | Name::Product => {

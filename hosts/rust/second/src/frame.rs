@@ -1,12 +1,11 @@
 //! The text frames of document 01, and what the program multiply has to print for any input at all.
 
 use crate::digits::{faults, list, product, words_of_plane, Digits};
+use crate::quotes::default_width;
 
 /// Above this the program refuses with 11; above the next with 1.
 const PROGRAM_LIMIT: usize = 128;
 const LIMIT: usize = 1024;
-/// Width 0 means this one.
-const DEFAULT_WIDTH: usize = 4;
 
 /// What multiply prints.
 pub fn answer(input: &[u8]) -> Vec<u8> {
@@ -43,7 +42,8 @@ fn multiply(input: &[u8]) -> Result<Vec<u8>, u8> {
     let a = Digits::of_words(a.rows, a.columns, &a.words);
     let b = Digits::of_words(b.rows, b.columns, &b.words);
     let mut text = written(&product(&a, &b));
-    text.extend(format!("{:08x}\n", list(&a, DEFAULT_WIDTH).len()).bytes());
+    let width = default_width(a.rows as u64, a.columns as u64);
+    text.extend(format!("{:08x}\n", list(&a, width as usize).len()).bytes());
     Ok(text)
 }
 

@@ -14,8 +14,8 @@ pub struct Input {
     pub meant: Option<u8>,
 }
 
-/// Sizes at which something changes: none, one, a block of the default width, a word, the limit, and their neighbours.
-const BOUNDARY: [usize; 10] = [0, 1, 3, 4, 5, 63, 64, 65, 127, 128];
+/// Sizes at which something changes: none, one, two; 7 and 8 columns, for which the default can be as wide; a word, the limit, and their neighbours.
+const BOUNDARY: [usize; 10] = [0, 1, 2, 7, 8, 63, 64, 65, 127, 128];
 /// Sizes with at least one cell and one padding place.
 const WITH_PADDING: [usize; 9] = [1, 2, 3, 5, 7, 63, 65, 66, 127];
 

@@ -12,6 +12,8 @@
 mod digits;
 mod frame;
 mod inputs;
+#[path = "../../common/quotes.rs"]
+mod quotes;
 #[path = "../../common/random.rs"]
 #[allow(dead_code)]
 mod random;

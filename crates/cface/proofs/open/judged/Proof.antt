@@ -1,9 +1,11 @@
 use mathlib.Core.Path.{sym, _∙_}
+use Rattle.cells.proofs.AnyLaws.{or-left}
 use Rattle.requests.specs.Answers.{first}
+use Rattle.requests.specs.Sizes.{over}
 use borrow.Author.Tests.{lt-ltb, le-ltb, eq-eqb, ne-eqb}
 use Rattle.cface.specs.Open.{openSizes}
 use Rattle.cface.specs.Record.{unfitRecord}
-use Rattle.matrix.proofs.JobLaws.{meant-le}
+use Rattle.matrix.proofs.JobLaws.{meant-le, width-done}
 use borrow.Author.Needs.{needs}
 use native.Mathlib.Omega.{arith}
 use Rattle.cface.proofs.open.judged.Statement.{statement}
@@ -35,19 +37,25 @@ returns-5 : tie.Need-returns-5
 unfolding openSizes unfitRecord first
 returns-5 c = rw (eq-eqb _ _ (c .before .before .before .before .before .before .before .before .if1 .left), sym (c .before .before .before .before .before .before .before .either-over .ensures) ∙ c .before .before .before .before .before .before .if2 .left, sym (c .before .before .before .before .before .either-above .ensures) ∙ c .before .before .before .before .if3 .left, eq-eqb _ _ (c .before .if4 .left), lt-ltb 8 (c .before .before .before .before .before .before .before .before .before .args .width) (c .if5 .taken))
 
-meant-requires : tie.Need-meant-requires
-meant-requires c κs = search needs
-
 misfit-requires : tie.Need-misfit-requires
-misfit-requires c κs = (sym (c .before .before .before .before .before .before .before .before .either-over .ensures) ∙ c .before .before .before .before .before .before .before .if2 .left, omega (arith, c .meant .ensures, meant-le (c .before .before .before .before .before .before .before .before .before .before .args .width) (c .before .if5 .left)))
+misfit-requires c κs =
+    let s = c .before .before .before .before .before .before .before .before .before in
+    let small = sym (c .before .before .before .before .before .before .before .either-over .ensures) ∙ c .before .before .before .before .before .before .if2 .left in
+    (small, omega (arith, width-done (s .args .x) (s .args .width) (s .args .w) (or-left (over (s .args .x)) (over (s .args .y)) small) (c .if5 .left) (s .pre), meant-le (s .args .x) (s .args .width) (c .if5 .left)))
 
 returns-6 : tie.Need-returns-6
 unfolding openSizes unfitRecord first
-returns-6 c = rw (eq-eqb _ _ (c .before .before .before .before .before .before .before .before .before .before .before .if1 .left), sym (c .before .before .before .before .before .before .before .before .before .before .either-over .ensures) ∙ c .before .before .before .before .before .before .before .before .before .if2 .left, sym (c .before .before .before .before .before .before .before .before .either-above .ensures) ∙ c .before .before .before .before .before .before .before .if3 .left, eq-eqb _ _ (c .before .before .before .before .if4 .left), le-ltb 8 (c .before .before .before .before .before .before .before .before .before .before .before .before .args .width) (c .before .before .before .if5 .left), sym (rw (c .before .before .meant .ensures) at (c .before .misfit .ensures)) ∙ c .if6 .taken)
+returns-6 c =
+    let s = c .before .before .before .before .before .before .before .before .before .before .before in
+    let w = width-done (s .args .x) (s .args .width) (s .args .w) (or-left (over (s .args .x)) (over (s .args .y)) (sym (c .before .before .before .before .before .before .before .before .before .either-over .ensures) ∙ c .before .before .before .before .before .before .before .before .if2 .left)) (c .before .before .if5 .left) (s .pre) in
+    rw (eq-eqb _ _ (c .before .before .before .before .before .before .before .before .before .before .if1 .left), sym (c .before .before .before .before .before .before .before .before .before .either-over .ensures) ∙ c .before .before .before .before .before .before .before .before .if2 .left, sym (c .before .before .before .before .before .before .before .either-above .ensures) ∙ c .before .before .before .before .before .before .if3 .left, eq-eqb _ _ (c .before .before .before .if4 .left), le-ltb 8 (c .before .before .before .before .before .before .before .before .before .before .before .args .width) (c .before .before .if5 .left), sym (rw w at (c .before .misfit .ensures)) ∙ c .if6 .taken)
 
 returns-7 : tie.Need-returns-7
 unfolding openSizes unfitRecord first
-returns-7 c = rw (eq-eqb _ _ (c .before .before .before .before .before .before .before .before .before .before .before .if1 .left), sym (c .before .before .before .before .before .before .before .before .before .before .either-over .ensures) ∙ c .before .before .before .before .before .before .before .before .before .if2 .left, sym (c .before .before .before .before .before .before .before .before .either-above .ensures) ∙ c .before .before .before .before .before .before .before .if3 .left, eq-eqb _ _ (c .before .before .before .before .if4 .left), le-ltb 8 (c .before .before .before .before .before .before .before .before .before .before .before .before .args .width) (c .before .before .before .if5 .left), sym (rw (c .before .before .meant .ensures) at (c .before .misfit .ensures)) ∙ c .if6 .left)
+returns-7 c =
+    let s = c .before .before .before .before .before .before .before .before .before .before .before in
+    let w = width-done (s .args .x) (s .args .width) (s .args .w) (or-left (over (s .args .x)) (over (s .args .y)) (sym (c .before .before .before .before .before .before .before .before .before .either-over .ensures) ∙ c .before .before .before .before .before .before .before .before .if2 .left)) (c .before .before .if5 .left) (s .pre) in
+    rw (eq-eqb _ _ (c .before .before .before .before .before .before .before .before .before .before .if1 .left), sym (c .before .before .before .before .before .before .before .before .before .either-over .ensures) ∙ c .before .before .before .before .before .before .before .before .if2 .left, sym (c .before .before .before .before .before .before .before .either-above .ensures) ∙ c .before .before .before .before .before .before .if3 .left, eq-eqb _ _ (c .before .before .before .if4 .left), le-ltb 8 (c .before .before .before .before .before .before .before .before .before .before .before .args .width) (c .before .before .if5 .left), sym (rw w at (c .before .misfit .ensures)) ∙ c .if6 .left)
 
 pub judged-spec : {M : Type 1} → statement M
-judged-spec = tie.close (tie.spec returns either-over-requires returns-2 either-above-requires returns-3 returns-4 returns-5 meant-requires misfit-requires returns-6 returns-7)
+judged-spec = tie.close (tie.spec returns either-over-requires returns-2 either-above-requires returns-3 returns-4 returns-5 misfit-requires returns-6 returns-7)

@@ -16,7 +16,9 @@ slice-aggregate-product-parts-4 : tie.Need-slice-aggregate-product-parts-4
 slice-aggregate-product-parts-4 c = search needs
 
 product-parts-requires : tie.Need-product-parts-requires
-product-parts-requires c κs = (c .before .before .before .before .before .before .before .before .pre, refl, refl, refl, refl)
+product-parts-requires c κs =
+    let s = c .before .before .before .before .before .before .before .before in
+    (s .pre .0, refl, refl, refl, refl, s .pre .1, s .pre .2)
 
 same-length : tie.Need-same-length
 same-length c = search needs

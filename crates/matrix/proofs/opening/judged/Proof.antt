@@ -27,10 +27,12 @@ unfolding openingTests first
 returns-3 c = rw (sym (c .before .before .before .before .before .either-over .ensures) ∙ c .before .before .before .before .if1 .left, eq-eqb _ _ (c .before .if2 .left), lt-ltb 8 (c .before .before .before .before .before .before .before .before .args .width) (c .if3 .taken))
 
 meant-requires : tie.Need-meant-requires
-meant-requires c κs = search needs
+meant-requires c κs =
+    let s = c .before .before .before .before .before .before .before .before in
+    or-left (over (s .args .x)) (over (s .args .y)) (sym (c .before .before .before .before .before .either-over .ensures) ∙ c .before .before .before .before .if1 .left)
 
 misfit-requires : tie.Need-misfit-requires
-misfit-requires c κs = (sym (c .before .before .before .before .before .before .either-over .ensures) ∙ c .before .before .before .before .before .if1 .left, omega (arith, c .meant .ensures, meant-le (c .before .before .before .before .before .before .before .before .before .args .width) (c .before .if3 .left)))
+misfit-requires c κs = (sym (c .before .before .before .before .before .before .either-over .ensures) ∙ c .before .before .before .before .before .if1 .left, omega (arith, c .meant .ensures, meant-le (c .before .before .before .before .before .before .before .before .before .args .x) (c .before .before .before .before .before .before .before .before .before .args .width) (c .before .if3 .left)))
 
 returns-4 : tie.Need-returns-4
 unfolding openingTests first
@@ -42,7 +44,7 @@ either-fault-requires c κs =
     let misfit-none = sym (rw (c .before .before .meant .ensures) at (c .before .misfit .ensures)) ∙ c .if4 .left in
     let x = c .before .before .before .before .before .before .before .before .before .before .before .args .x in
     let y = c .before .before .before .before .before .before .before .before .before .before .before .args .y in
-    let k = meant (c .before .before .before .before .before .before .before .before .before .before .before .args .width) in
+    let k = meant x (c .before .before .before .before .before .before .before .before .before .before .before .args .width) in
     (or-left (over x) (over y) over-none, or-right (over x) (over y) over-none, fit-a x y k _ _ _ _ misfit-none, fit-b x y k _ _ _ _ misfit-none)
 
 returns-5 : tie.Need-returns-5

@@ -2,6 +2,7 @@ use mathlib.Core.Path.{sym, ap, _∙_}
 use Prim.Native.Nat.{ℕ}
 use Rattle.buffers.specs.Buffer.{cell}
 use Rattle.requests.proofs.AnswerLaws.{refused, finished}
+use Rattle.requests.proofs.SizeLaws.{not-over}
 use Rattle.steps.specs.Count.{total}
 use Rattle.matrix.specs.Total.{totalMeans}
 use Rattle.matrix.proofs.JobLaws.{meant-pos, meant-le, total-ready}
@@ -21,12 +22,15 @@ unfolding totalMeans
 returns c = refused _ _ _ _ (λ z. c .if1 .taken (c .before .word .ensures ∙ z)) (sym (c .before .before .judged .ensures))
 
 meant-requires : tie.Need-meant-requires
-meant-requires c κs = search needs
+meant-requires c κs =
+    let s = c .before .before .before .before in
+    let r = total-ready (s .args .x) (s .args .width) (s .args .a .now) (sym (c .before .before .judged .ensures) ∙ sym (c .before .word .ensures) ∙ c .if1 .left) in
+    not-over _ (r .rows) (r .columns)
 
 place-requires : tie.Need-place-requires
 place-requires c κs =
     let r = total-ready (c .before .before .before .before .before .args .x) (c .before .before .before .before .before .args .width) (c .before .before .before .before .before .args .a .now) (sym (c .before .before .before .judged .ensures) ∙ sym (c .before .before .word .ensures) ∙ c .before .if1 .left) in
-    (r .rows, r .columns, r .legal, omega (arith, c .meant .ensures, meant-pos (c .before .before .before .before .before .args .width)), omega (arith, c .meant .ensures, meant-le (c .before .before .before .before .before .args .width) (r .width)))
+    (r .rows, r .columns, r .legal, omega (arith, c .meant .ensures, meant-pos (c .before .before .before .before .before .args .x) (c .before .before .before .before .before .args .width)), omega (arith, c .meant .ensures, meant-le (c .before .before .before .before .before .args .x) (c .before .before .before .before .before .args .width) (r .width)))
 
 returns-2 : tie.Need-returns-2
 unfolding totalMeans

@@ -40,14 +40,8 @@ returns c = c .before .before .refuse .ensures ∙ refusal-printed (c .before .b
 long-requires : tie.Need-long-requires
 long-requires c κs = ((c .before .before .before .before .before .before .before .before .matrices .ensures .1 (sym (c .before .before .before .word .ensures) ∙ c .before .before .if1 .left)) .x-rows, (c .before .before .before .before .before .before .before .before .matrices .ensures .1 (sym (c .before .before .before .word .ensures) ∙ c .before .before .if1 .left)) .y-columns)
 
-planes-requires : tie.Need-planes-requires
-planes-requires c κs = omega (arith, (c .before .before .before .before .before .before .before .before .before .matrices .ensures .1 (sym (c .before .before .before .before .word .ensures) ∙ c .before .before .before .if1 .left)) .y-columns)
-
-mul-t : tie.Need-mul-t
-mul-t c = omega (arith, few-words 16 (c .before .before .before .before .before .before .before .before .before .before .matrices .result .y .columns) (c .planes .result) (omega arith) ((c .before .before .before .before .before .before .before .before .before .before .matrices .ensures .1 (sym (c .before .before .before .before .before .word .ensures) ∙ c .before .before .before .before .if1 .left)) .y-columns) (c .planes .ensures))
-
-mul-t-2 : tie.Need-mul-t-2
-mul-t-2 c = omega (arith, few-words 16 (c .before .before .before .before .before .before .before .before .before .before .matrices .result .y .columns) (c .planes .result) (omega arith) ((c .before .before .before .before .before .before .before .before .before .before .matrices .ensures .1 (sym (c .before .before .before .before .before .word .ensures) ∙ c .before .before .before .before .if1 .left)) .y-columns) (c .planes .ensures))
+own-table-requires : tie.Need-own-table-requires
+own-table-requires c κs = let F = (c .before .before .before .before .before .before .before .before .before .matrices .ensures .1 (sym (c .before .before .before .before .word .ensures) ∙ c .before .before .before .if1 .left)) in (F .x-rows, F .x-columns, F .y-columns)
 
 long-requires-2 : tie.Need-long-requires-2
 long-requires-2 c κs = ((c .before .before .before .before .before .before .before .before .before .before .matrices .ensures .1 (sym (c .before .before .before .before .before .word .ensures) ∙ c .before .before .before .before .if1 .left)) .x-rows, (c .before .before .before .before .before .before .before .before .before .before .matrices .ensures .1 (sym (c .before .before .before .before .before .word .ensures) ∙ c .before .before .before .before .if1 .left)) .x-columns)
@@ -80,7 +74,7 @@ part-made-start-3 : tie.Need-part-made-start-3
 part-made-start-3 c = search needs
 
 part-made-end-3 : tie.Need-part-made-end-3
-part-made-end-3 c = omega (arith, c .before .before .before .before .before .before .before .before .before .before .before .before .before .before .before .before .before .before .before .before .before .before .before .before .before .pre .2, few-words 16 (c .before .before .before .before .before .before .before .before .before .before .before .before .before .before .before .before .matrices .result .y .columns) (c .before .before .before .before .before .before .planes .result) (omega arith) ((c .before .before .before .before .before .before .before .before .before .before .before .before .before .before .before .before .matrices .ensures .1 (sym (c .before .before .before .before .before .before .before .before .before .before .before .word .ensures) ∙ c .before .before .before .before .before .before .before .before .before .before .if1 .left)) .y-columns) (c .before .before .before .before .before .before .planes .ensures))
+part-made-end-3 c = omega (arith, c .before .before .before .before .before .before .before .before .before .before .before .before .before .before .before .before .before .before .before .before .before .before .before .before .before .pre .2, c .before .before .before .before .before .before .own-table .ensures .1)
 
 sub-made-4 : tie.Need-sub-made-4
 sub-made-4 c = search needs
@@ -94,7 +88,7 @@ part-made-end-4 c = search needs
 made-requires : tie.Need-made-requires
 unfolding words wide
 made-requires c κs = let F = (c .before .before .before .before .before .before .before .before .before .before .before .before .before .before .before .before .before .before .matrices .ensures .1 (sym (c .before .before .before .before .before .before .before .before .before .before .before .before .before .word .ensures) ∙ c .before .before .before .before .before .before .before .before .before .before .before .before .if1 .left)) in
-    (F .x-rows, F .x-columns, F .y-rows, F .y-columns, length-take (c .before .before .before .before .before .before .before .long2 .result - 0) (c .before .before .before .before .before .before .before .before .before .before .before .before .before .before .before .before .before .before .matrices .last .1 .0) ∙ omega (arith, c .before .before .before .before .before .before .before .long2 .ensures, c .before .before .before .before .before .before .before .before .before .before .before .before .before .before .before .before .before .before .before .before .before .before .before .before .before .before .before .pre .0), length-take (c .before .before .before .before .long3 .result - 0) (c .before .before .before .before .before .before .before .before .before .before .before .before .before .before .before .before .before .before .matrices .last .1 .1 .0) ∙ omega (arith, c .before .before .before .before .long3 .ensures, c .before .before .before .before .before .before .before .before .before .before .before .before .before .before .before .before .before .before .before .before .before .before .before .before .before .before .before .pre .1), length-take (16 * (2 * c .before .before .before .before .before .before .before .before .planes .result) - 0) (c .before .before .before .before .before .before .before .before .before .before .before .before .before .before .before .before .before .before .before .before .before .before .before .before .before .before .before .args .table .now) ∙ omega (arith, c .before .before .before .before .before .before .before .before .before .before .before .before .before .before .before .before .before .before .before .before .before .before .before .before .before .before .before .pre .2, few-words 16 (c .before .before .before .before .before .before .before .before .before .before .before .before .before .before .before .before .before .before .matrices .result .y .columns) (c .before .before .before .before .before .before .before .before .planes .result) (omega arith) ((c .before .before .before .before .before .before .before .before .before .before .before .before .before .before .before .before .before .before .matrices .ensures .1 (sym (c .before .before .before .before .before .before .before .before .before .before .before .before .before .word .ensures) ∙ c .before .before .before .before .before .before .before .before .before .before .before .before .if1 .left)) .y-columns) (c .before .before .before .before .before .before .before .before .planes .ensures), c .before .before .before .before .before .before .before .before .planes .ensures), length-take (c .before .before .before .before .before .before .before .before .before .long .result - 0) (c .before .before .before .before .before .before .before .before .before .before .before .before .before .before .before .before .before .before .before .before .before .before .before .before .before .before .before .args .product .now) ∙ omega (arith, c .before .before .before .before .before .before .before .before .before .long .ensures, c .before .before .before .before .before .before .before .before .before .before .before .before .before .before .before .before .before .before .before .before .before .before .before .before .before .before .before .pre .3))
+    (F .x-rows, F .x-columns, F .y-rows, F .y-columns, length-take (c .before .before .before .before .before .before .before .long2 .result - 0) (c .before .before .before .before .before .before .before .before .before .before .before .before .before .before .before .before .before .before .matrices .last .1 .0) ∙ omega (arith, c .before .before .before .before .before .before .before .long2 .ensures, c .before .before .before .before .before .before .before .before .before .before .before .before .before .before .before .before .before .before .before .before .before .before .before .before .before .before .before .pre .0), length-take (c .before .before .before .before .long3 .result - 0) (c .before .before .before .before .before .before .before .before .before .before .before .before .before .before .before .before .before .before .matrices .last .1 .1 .0) ∙ omega (arith, c .before .before .before .before .long3 .ensures, c .before .before .before .before .before .before .before .before .before .before .before .before .before .before .before .before .before .before .before .before .before .before .before .before .before .before .before .pre .1), length-take (c .before .before .before .before .before .before .before .before .own-table .result - 0) (c .before .before .before .before .before .before .before .before .before .before .before .before .before .before .before .before .before .before .before .before .before .before .before .before .before .before .before .args .table .now) ∙ omega (arith, c .before .before .before .before .before .before .before .before .before .before .before .before .before .before .before .before .before .before .before .before .before .before .before .before .before .before .before .pre .2, c .before .before .before .before .before .before .before .before .own-table .ensures), length-take (c .before .before .before .before .before .before .before .before .before .long .result - 0) (c .before .before .before .before .before .before .before .before .before .before .before .before .before .before .before .before .before .before .before .before .before .before .before .before .before .before .before .args .product .now) ∙ omega (arith, c .before .before .before .before .before .before .before .before .before .long .ensures, c .before .before .before .before .before .before .before .before .before .before .before .before .before .before .before .before .before .before .before .before .before .before .before .before .before .before .before .pre .3))
 
 number-requires : tie.Need-number-requires
 number-requires c κs = search needs
@@ -180,9 +174,7 @@ answer-spec =
     same-length-3
     returns
     long-requires
-    planes-requires
-    mul-t
-    mul-t-2
+    own-table-requires
     long-requires-2
     sub-made
     part-made-start

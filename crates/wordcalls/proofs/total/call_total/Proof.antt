@@ -24,7 +24,7 @@ returns c =
     let s : Size = record { rows = given .rows; columns = given .columns } in
     let E = total-exact s (given .width) (given .a .now) (made .result .answer) (made .result .steps) (made .ensures) in
     rw (c .word .ensures)
-    (seen E (λ z. (E .right z, omega (arith, E .right z, total-le (given .rows) (given .columns) (meant (given .width)) (cell (given .columns) (given .a .now))))))
+    (seen E (λ z. (E .right z, omega (arith, E .right z, total-le (given .rows) (given .columns) (meant s (given .width)) (cell (given .columns) (given .a .now))))))
 
 pub call-total-spec : {M : Type 1} → statement M
 call-total-spec = tie.close (tie.spec total-requires word-requires returns)

@@ -19,7 +19,7 @@ use Rattle.matrix.proofs.turn.turn.Reads as turn-reads
 
 abbrev Inv-loop : tie.InvT-loop
 Inv-loop a-rows a-columns b-rows b-columns width a b table₀ product₀ budgets job₀ i₀ table product job i =
-    (i ≤ length budgets) × Led (record { rows = a-rows; columns = a-columns }) (record { rows = b-rows; columns = b-columns }) (meant width) a b budgets i job table product
+    (i ≤ length budgets) × Led (record { rows = a-rows; columns = a-columns }) (record { rows = b-rows; columns = b-columns }) (meant (record { rows = a-rows; columns = a-columns }) width) a b budgets i job table product
 
 abbrev μ-loop : tie.MeasureT-loop
 μ-loop a-rows a-columns b-rows b-columns width a b table₀ product₀ budgets job₀ i₀ table product job i = length budgets - i
@@ -29,7 +29,7 @@ loop-holds c =
     let s = c .before .before .before .before .before in
     let x : Size = record { rows = s .args .a-rows; columns = s .args .a-columns } in
     let y : Size = record { rows = s .args .b-rows; columns = s .args .b-columns } in
-    let k = meant (s .args .width) in (
+    let k = meant x (s .args .width) in (
       omega arith,
       subst (λ (d : ℕ). Stands x y k (s .args .a .now) (s .args .b .now) d (s .args .new) (s .args .table .now) (s .args .product .now)) (led-none (s .args .budgets .now) (totalOf x k (s .args .a .now))) (s .pre .6),
     )
@@ -63,7 +63,7 @@ loop-again c =
     let x : Size = record { rows = s .args .a-rows; columns = s .args .a-columns } in
     let y : Size = record { rows = s .args .b-rows; columns = s .args .b-columns } in
     let on = turn-on x y (s .args .width) (s .args .a .now) (s .args .b .now) (s .pre .0) (s .pre .1) (s .pre .2) (s .pre .3) (s .pre .4) (s .pre .5) _ (getD (s .args .budgets .now) (at .i) 0) (at .job) (at .table) (at .product) _ _ _ _ _ _ (omega arith) (at .inv .1) says in
-    let here = led-more (s .args .budgets .now) (totalOf x (meant (s .args .width)) (s .args .a .now)) (at .i) more in
+    let here = led-more (s .args .budgets .now) (totalOf x (meant x (s .args .width)) (s .args .a .now)) (at .i) more in
     (omega (arith, more), rw here at (on .1))
 
 enum-told : tie.Need-enum-told Inv-loop μ-loop

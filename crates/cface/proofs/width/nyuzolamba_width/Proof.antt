@@ -1,0 +1,47 @@
+use mathlib.Core.Path.{sym, ap, _∙_}
+use Prim.Native.Nat.{ℕ}
+use Rattle.requests.proofs.AnswerLaws.{refused}
+use Rattle.cface.specs.Width.{widthFace}
+use Rattle.cface.proofs.CountLaws.{count-long, width-made}
+use borrow.Author.Needs.{needs}
+use Rattle.cface.proofs.width.nyuzolamba_width.Statement.{statement}
+use Rattle.cface.proofs.width.nyuzolamba_width.Tie as tie
+
+judged-requires : tie.Need-judged-requires
+judged-requires c κs = search needs
+
+word-requires : tie.Need-word-requires
+word-requires c κs = search needs
+
+returns : tie.Need-returns
+unfolding widthFace
+returns c = refused _ _ _ _ (c .if1 .taken) (sym (c .before .word .ensures ∙ c .before .before .judged .ensures))
+
+width-requires : tie.Need-width-requires
+width-requires c κs = search needs
+
+put-count-requires : tie.Need-put-count-requires
+put-count-requires c κs =
+    let s = c .before .before .before .before .before .before in
+    count-long (record { rows = s .args .a-rows; columns = s .args .a-columns }) (s .args .width) (s .args .out .now) (sym (c .before .before .before .before .judged .ensures) ∙ sym (c .before .before .before .word .ensures) ∙ c .before .before .if1 .left)
+
+same-length : tie.Need-same-length
+same-length c = search needs
+
+returns-2 : tie.Need-returns-2
+returns-2 c =
+    let s = c .before .before .before .before .before .before .before .before .before in
+    let z = sym (c .before .before .before .before .before .before .before .judged .ensures) ∙ sym (c .before .before .before .before .before .before .word .ensures) ∙ c .before .before .before .before .before .if1 .left in
+    width-made (record { rows = s .args .a-rows; columns = s .args .a-columns }) (s .args .width) (s .args .out .now) z (c .before .before .before .before .width .result .width) _ (ap (λ (o : ℕ × ℕ). o .1) (c .before .before .before .before .width .ensures)) (c .before .before .put-count .ensures)
+
+pub nyuzolamba-width-spec : {M : Type 1} → statement M
+nyuzolamba-width-spec =
+    tie.close
+    (tie.spec
+    judged-requires
+    word-requires
+    returns
+    width-requires
+    put-count-requires
+    same-length
+    returns-2)
