@@ -15,8 +15,8 @@
  * OVERLAP. Buffers that are only read may overlap or be one: A and B may be the same buffer. A buffer that is written (out, product, table,
  * record) shares no byte with any other buffer of the call. No call can test this: the host sees to it.
  *
- * THREADS. There is no state: calls may run at once in any number of threads as long as no call writes a buffer that another one uses. A call
- * uses up to eight kilobytes of stack.
+ * THREADS. There is no state: calls may run at once in any number of threads as long as no call writes a buffer that another one uses. An opening
+ * or a turn uses up to eight kilobytes of stack, a product up to six, every other call up to four.
  *
  * ANSWERS. Each call returns a word of 64 bits: in its lowest eight bits one of the numbers below, and above them, with two of the numbers, the place
  * of the fault. On any word but NYUZOLAMBA_DONE, which is 0, the call has written nothing: every buffer, the record too, holds what it held. Where

@@ -11,6 +11,9 @@ mod digits;
 #[path = "../rust/second/src/frame.rs"]
 #[allow(dead_code)]
 mod frame;
+#[path = "../rust/common/quotes.rs"]
+#[allow(dead_code)]
+mod quotes;
 #[path = "../rust/common/random.rs"]
 #[allow(dead_code)]
 mod random;

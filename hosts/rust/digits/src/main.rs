@@ -9,6 +9,9 @@ mod digits;
 #[path = "../../second/src/frame.rs"]
 #[allow(dead_code)]
 mod frame;
+#[path = "../../common/quotes.rs"]
+#[allow(dead_code)]
+mod quotes;
 #[path = "../../common/random.rs"]
 #[allow(dead_code)]
 mod random;
