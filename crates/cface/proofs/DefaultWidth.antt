@@ -2,7 +2,7 @@
 -- of that width, in bytes. Assumes nothing.
 use mathlib.Core.Path.{_≡_}
 use mathlib.Core.List.{List}
-use Prim.Native.Nat.{ℕ, _^_, _≤_, min}
+use Prim.Native.Nat.{ℕ, _≤_, min}
 use lib.ListN.{length}
 use Rattle.buffers.specs.Buffer.{words, cell, encode}
 use Rattle.requests.specs.declared.Size.{Size}

@@ -18,7 +18,7 @@ use requests::sizes::either_over;
 use requests::word;
 use wordbytes::bytes::words_in_two;
 
-// The tests of sizes, width and lengths; w is the width meant, and k, l, m, t and p are how many bytes record, A, B, table and product have.
+// The tests of sizes, width and lengths; w is the width answered for A, and k, l, m, t and p are how many bytes record, A, B, table and product have.
 fn judged(
     x: Size,
     y: Size,

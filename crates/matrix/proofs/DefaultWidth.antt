@@ -8,7 +8,7 @@ use Rattle.buffers.specs.Buffer.{words, cell, encode}
 use Rattle.requests.specs.declared.Size.{Size}
 use Rattle.steps.specs.Matrix.{schoolbook}
 use Rattle.steps.specs.Count.{quote}
-use Rattle.steps.specs.Width.{defaultWidth, Cheapest}
+use Rattle.steps.specs.Width.{defaultWidth}
 use Rattle.steps.specs.Turn.{allBudgets, Given}
 use Rattle.steps.proofs.Width.{default-is}
 use Rattle.matrix.specs.declared.job.Job.{Job}

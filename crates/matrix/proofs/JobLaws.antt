@@ -1,9 +1,8 @@
 -- What the tests of jobs say where none of them holds. Assumes nothing.
-use mathlib.Core.Path.{_≡_, refl, sym, ap, ap₂, subst, _∙_}
+use mathlib.Core.Path.{_≡_, refl, sym, ap, subst, _∙_}
 use mathlib.Core.Bool.{Bool, false, _||_}
-use mathlib.Core.List.{List, [], _++_}
+use mathlib.Core.List.{List, []}
 use Prim.Native.Nat.{ℕ, zero, suc, _+_, _-_, _*_, _%_, _^_, _≤_, _<_, min}
-use native.Mathlib.Numerals.{add-one}
 use native.Mathlib.Omega.{arith}
 use lib.Dec.{T, ltb, eqb}
 use native.Mathlib.Decide.{decLt}
@@ -23,9 +22,8 @@ use Rattle.requests.specs.declared.Buffer.the-variants.{First, Second, Third, F
 use Rattle.requests.proofs.PairLaws.{faults-positive, pair-positive}
 use Rattle.requests.proofs.AnswerLaws.{positive, positive-append, finished, none-first, first-none, append-given, append-none, here, later}
 use Rattle.rows.specs.Row.{Written}
-use Rattle.cells.specs.Counts.{sum}
 use Rattle.steps.specs.Step.{Step, run, opening}
-use Rattle.steps.specs.StepList.{each, blocks, blockWidth, blockAt}
+use Rattle.steps.specs.StepList.{each, blocks, blockAt}
 use Rattle.steps.specs.Count.{quote, total}
 use Rattle.steps.specs.Turn.{due, made, turn}
 use Rattle.steps.proofs.Fits.{AllFit}

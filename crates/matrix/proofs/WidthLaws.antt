@@ -1,14 +1,10 @@
 -- The quote without a loop and the default width, as the code comes by them. Assumes nothing.
-use mathlib.Core.Path.{_≡_, refl, sym, ap, _∙_}
+use mathlib.Core.Path.{_≡_, sym, ap}
 use mathlib.Core.Bool.{Bool, true, false}
-use Prim.Native.Nat.{ℕ, zero, suc, _+_, _-_, _*_, _/_, _%_, _^_, _≤_, _<_, min}
+use Prim.Native.Nat.{ℕ, suc, _+_, _-_, _*_, _/_, _%_, _≤_, _<_, min}
 use native.Mathlib.Omega.{arith}
 use native.Mathlib.Nat.{mul-le-mul}
-use lib.Dec.{ltb}
 use borrow.Author.Tests.{lt-ltb, le-ltb}
-use Rattle.requests.specs.declared.Size.{Size}
-use Rattle.requests.specs.Sizes.{over}
-use Rattle.requests.proofs.AnswerLaws.{none-first, done-makes}
 use Rattle.steps.specs.Count.{blockQuote, quote}
 use Rattle.steps.specs.Width.{better, cheapest, defaultWidth}
 use Rattle.steps.proofs.Width.{quote-closed}

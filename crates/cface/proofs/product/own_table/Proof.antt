@@ -1,4 +1,3 @@
-use mathlib.Core.Path.{_∙_}
 use lib.Pow.{pow-mono}
 use Prim.Native.Nat.{_^_}
 use Rattle.buffers.proofs.SizeLaws.{planes-le}

@@ -1,4 +1,4 @@
-use mathlib.Core.Path.{refl, ap, _∙_}
+use mathlib.Core.Path.{ap}
 use Prim.Native.Nat.{ℕ}
 use Rattle.requests.proofs.SizeLaws.{not-over}
 use Rattle.steps.proofs.Width.{default-small}

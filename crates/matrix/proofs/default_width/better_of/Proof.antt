@@ -1,5 +1,3 @@
-use mathlib.Core.Path.{ap, _∙_}
-use Prim.Native.Nat.{ℕ}
 use Rattle.steps.specs.Count.{quote}
 use Rattle.matrix.proofs.WidthLaws.{better-new, better-old}
 use borrow.Author.Needs.{needs}

@@ -1,5 +1,5 @@
 use lib.Pow.{pow-pos}
-use Rattle.walk.proofs.CountLaws.{shift-one, pow-small}
+use Rattle.walk.proofs.CountLaws.{pow-small}
 use borrow.Author.Needs.{needs}
 use native.Mathlib.Omega.{arith}
 use Rattle.matrix.proofs.quoted.block_quote.Statement.{statement}

@@ -1,11 +1,10 @@
 use mathlib.Core.Path.{_≡_, sym, ap, _∙_}
-use Prim.Native.Nat.{ℕ, _-_, _*_}
+use Prim.Native.Nat.{ℕ, _-_}
 use lib.ListN.{length, take, drop, length-take, length-drop, length-append}
 use lib.Seq.{take-at}
-use Rattle.buffers.specs.Buffer.{planes, wide, words}
+use Rattle.buffers.specs.Buffer.{wide, words}
 use Rattle.buffers.proofs.BufferLaws.{encode-legal}
 use Rattle.requests.specs.Answers.{word}
-use Rattle.texts.proofs.TextLaws.{few-words}
 use Rattle.texts.proofs.MultiplyLaws.{refusal-printed, form-refused, multiply-tests, product-printed}
 use borrow.Author.Needs.{needs}
 use native.Mathlib.Omega.{arith}
