@@ -45,11 +45,11 @@ cheapest-is f zero = record { from = omega arith; to = omega arith; lowest = λ 
 cheapest-is f (suc n) = better-is f (suc n) (cheapest f n) (cheapest-is f n)
 
 -- neither of two such widths is the smaller one
-cheapest-le : (f : ℕ → ℕ) (n w v : ℕ) → Cheapest f n w → Cheapest f n v → v < w → ⊥
-cheapest-le f n w v C D less = omega (arith, C .first v (D .from) less, D .lowest w (C .from) (C .to))
+not-smaller : (f : ℕ → ℕ) (n w v : ℕ) → Cheapest f n w → Cheapest f n v → v < w → ⊥
+not-smaller f n w v C D less = omega (arith, C .first v (D .from) less, D .lowest w (C .from) (C .to))
 
 pub cheapest-one : (f : ℕ → ℕ) (n w v : ℕ) → Cheapest f n w → Cheapest f n v → w ≡ v
-cheapest-one f n w v C D = omega (arith, cheapest-le f n w v C D, cheapest-le f n v w D C)
+cheapest-one f n w v C D = omega (arith, not-smaller f n w v C D, not-smaller f n v w D C)
 
 pub default-is : (m l : ℕ) → Cheapest (quote m l) 8 (defaultWidth m l)
 unfolding defaultWidth

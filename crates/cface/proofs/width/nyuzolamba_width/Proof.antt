@@ -1,8 +1,10 @@
 use mathlib.Core.Path.{sym, ap, _∙_}
 use Prim.Native.Nat.{ℕ}
+use Rattle.requests.specs.declared.Size.{Size}
 use Rattle.requests.proofs.AnswerLaws.{refused}
+use Rattle.matrix.proofs.JobLaws.{width-done}
 use Rattle.cface.specs.Width.{widthFace}
-use Rattle.cface.proofs.CountLaws.{count-long, width-made}
+use Rattle.cface.proofs.CountLaws.{count-long, count-small, count-narrow, count-made}
 use borrow.Author.Needs.{needs}
 use Rattle.cface.proofs.width.nyuzolamba_width.Statement.{statement}
 use Rattle.cface.proofs.width.nyuzolamba_width.Tie as tie
@@ -29,10 +31,13 @@ same-length : tie.Need-same-length
 same-length c = search needs
 
 returns-2 : tie.Need-returns-2
+unfolding widthFace
 returns-2 c =
     let s = c .before .before .before .before .before .before .before .before .before in
+    let x : Size = record { rows = s .args .a-rows; columns = s .args .a-columns } in
     let z = sym (c .before .before .before .before .before .before .before .judged .ensures) ∙ sym (c .before .before .before .before .before .before .word .ensures) ∙ c .before .before .before .before .before .if1 .left in
-    width-made (record { rows = s .args .a-rows; columns = s .args .a-columns }) (s .args .width) (s .args .out .now) z (c .before .before .before .before .width .result .width) _ (ap (λ (o : ℕ × ℕ). o .1) (c .before .before .before .before .width .ensures)) (c .before .before .put-count .ensures)
+    let e = width-done x (s .args .width) (c .before .before .before .before .width .result .width) (count-small x (s .args .width) (s .args .out .now) z) (count-narrow x (s .args .width) (s .args .out .now) z) (ap (λ (o : ℕ × ℕ). o .1) (c .before .before .before .before .width .ensures)) in
+    count-made x (s .args .width) (s .args .out .now) z _ _ _ e (c .before .before .put-count .ensures)
 
 pub nyuzolamba-width-spec : {M : Type 1} → statement M
 nyuzolamba-width-spec =
