@@ -27,7 +27,7 @@ typedef uint64_t row_steps(uint64_t *d, size_t d_len, const uint64_t *s, size_t 
 
 row_steps bench_add, bench_subtract, bench_table_step;
 read_one bench_check;
-two_to_one bench_sum, bench_difference;
+combined_to_one bench_combination;
 one_to_one bench_negation, bench_transpose;
 scaled_to_one bench_scaling;
 cells_to_one bench_pack;
@@ -187,8 +187,13 @@ REQUEST(check, WORDS(0))
     }
 REFUSED_SIDE(ours_refused_check, bench_check, WORDS(0))
 REFUSED_SIDE(c_refused_check, matrix_check, WORDS(0))
-REQUEST(sum, WORDS(0), WORDS(1), WORDS(2))
-REQUEST(difference, WORDS(0), WORDS(1), WORDS(2))
+#define COMBINATION(digit)                                                                           \
+    SIDE(ours_combination_##digit, bench_combination, digit, WORDS(0), WORDS(1), WORDS(2)) \
+    SIDE(c_combination_##digit, matrix_combination, digit, WORDS(0), WORDS(1), WORDS(2))
+
+COMBINATION(0)
+COMBINATION(1)
+COMBINATION(2)
 REQUEST(negation, WORDS(0), WORDS(1))
 REQUEST(scaling, 2, WORDS(0), WORDS(1))
 REQUEST(transpose, WORDS(0), WORDS(1))
@@ -203,7 +208,7 @@ REQUEST(unpack, WORDS(0), CELLS(1))
     SIDE(c_face_##name, face_##name, __VA_ARGS__)
 
 FACE(check, BYTES(0))
-FACE(sum, w->size, w->size, BYTES(0), BYTES(1), BYTES(2))
+FACE(combination, w->size, w->size, 1, BYTES(0), BYTES(1), BYTES(2))
 FACE(product, w->size, w->size, BYTES(0), BYTES(1), BYTES(2))
 // The copies of a product alone. Ours is handed the words that they go through, so that none of them is left out.
 static uint64_t ours_face_copies(struct work *w, size_t times)
@@ -347,8 +352,9 @@ static const struct bench_case cases[] = {
     {"table-step", {1, 4, 16}, 1000, row_step, ours_table_step, c_table_step, WORD, 0, NULL, 0},
     {"check", {64, 256, 1000, 1024}, 4, fill_one, ours_check, c_check, WORD, 1, spoil_matrix, 0},
     {"check-refused", {64, 256, 1000, 1024}, 4, fill_one_bad, ours_refused_check, c_refused_check, WORD, 0, NULL, 0},
-    {"sum", {64, 256, 1000, 1024}, 4, fill_two_to_one, ours_sum, c_sum, WORD, 2, spoil_matrix, 0},
-    {"difference", {64, 256, 1024}, 4, fill_two_to_one, ours_difference, c_difference, WORD, 2, spoil_matrix, 0},
+    {"combination-0", {64, 256, 1024}, 4, fill_two_to_one, ours_combination_0, c_combination_0, WORD, 2, spoil_matrix, 0},
+    {"combination-1", {64, 256, 1000, 1024}, 4, fill_two_to_one, ours_combination_1, c_combination_1, WORD, 2, spoil_matrix, 0},
+    {"combination-2", {64, 256, 1024}, 4, fill_two_to_one, ours_combination_2, c_combination_2, WORD, 2, spoil_matrix, 0},
     {"negation", {64, 256, 1024}, 4, fill_one_to_one, ours_negation, c_negation, WORD, 1, spoil_matrix, 0},
     {"scaling", {64, 256, 1024}, 4, fill_one_to_one, ours_scaling, c_scaling, WORD, 1, spoil_matrix, 0},
     {"transpose", {64, 256, 1000, 1024}, 2, fill_one_to_one, ours_transpose, c_transpose, CELL, 1, spoil_matrix, 0},
@@ -366,7 +372,7 @@ static const struct bench_case cases[] = {
     {"turn-of-0", {1024}, 2, lone_turn, ours_turn, c_turn, STEP, 4, spoil_matrix, 8},
     {"turns-of-1000", {1024}, 1, whole, ours_turns, c_turns, STEP, 2, spoil_matrix, 8},
     {"face-check", {64}, 4, fill_one, ours_face_check, c_face_check, WORD, 1, spoil_matrix, 0},
-    {"face-sum", {64}, 4, fill_two_to_one, ours_face_sum, c_face_sum, WORD, 2, spoil_matrix, 0},
+    {"face-combination", {64}, 4, fill_two_to_one, ours_face_combination, c_face_combination, WORD, 2, spoil_matrix, 0},
     {"face-open-4", {8, 32}, 4, whole, ours_face_open, c_face_open, WORD, 2, spoil_matrix, 4},
     {"face-open-0", {8, 32}, 4, whole, ours_face_open, c_face_open, WORD, 2, spoil_matrix, 0},
     {"face-product", {64}, 4, fill_two_to_one, ours_face_product, c_face_product, STEP, 2, spoil_matrix, 0},

@@ -35,24 +35,25 @@ extern "C" {
 #endif
 
 /* The version, counted as CHANGELOG.md says. It stands here alone: `make install` hands it to pkg-config. */
-#define NYUZOLAMBA_VERSION_MAJOR 4
+#define NYUZOLAMBA_VERSION_MAJOR 5
 #define NYUZOLAMBA_VERSION_MINOR 0
 #define NYUZOLAMBA_VERSION_PATCH 0
-#define NYUZOLAMBA_VERSION "4.0.0"
+#define NYUZOLAMBA_VERSION "5.0.0"
 
 /* What comes back: word = number + 2^8 * buffer + 2^16 * row + 2^32 * column, where the number is one of these. NYUZOLAMBA_SIGN and
  * NYUZOLAMBA_PADDING come with a place, which makes the word another value than the number: compare NYUZOLAMBA_NUMBER(word) with them. With all other
  * numbers buffer, row and column are 0, and the word is the number itself; `word != NYUZOLAMBA_DONE` says that a call was refused. The numbers are
- * those of document 01; 8 and 10 belong to requests that the C face does not have. */
+ * those of document 01; 10 belongs to requests that the C face does not have. */
 enum {
     NYUZOLAMBA_DONE = 0,      /* done */
     NYUZOLAMBA_SIZE = 1,      /* a row or column count is above 1,024 */
-    NYUZOLAMBA_UNFIT = 2,     /* sum, difference: the sizes differ; product, open: A's columns aren't B's rows */
+    NYUZOLAMBA_UNFIT = 2,     /* combination: the sizes differ; product, open: A's columns aren't B's rows */
     NYUZOLAMBA_WIDTH = 3,     /* the width is above 8; in a turn, also 0 */
     NYUZOLAMBA_LENGTH = 4,    /* a buffer isn't of the exact length */
     NYUZOLAMBA_SIGN = 5,      /* a real column holds sign without unit; the word has its place */
     NYUZOLAMBA_PADDING = 6,   /* a bit beyond the last column is set; the word has its place */
     NYUZOLAMBA_STEPS = 7,     /* the record's steps done exceed the length of the list of row steps */
+    NYUZOLAMBA_DIGIT = 8,     /* combination: the digit is above 2 */
     NYUZOLAMBA_FACE_LIMIT = 11 /* a row or column count is above 64, and none above 1,024 */
 };
 
@@ -136,15 +137,12 @@ static inline void nyuzolamba_set_word(uint8_t *bytes, size_t index, uint64_t wo
 uint64_t nyuzolamba_check(uint64_t rows, uint64_t columns, const uint8_t *a, size_t a_bytes);
 
 /*
- * out = A + B, cell by cell, modulo 3. `out` is of A's size; what it held is not looked at.
- * Order: SIZE, FACE_LIMIT, UNFIT, LENGTH (of a, b, out), SIGN and PADDING of A, then of B.
+ * out = A + digit * B, cell by cell, modulo 3: A + B by the digit 1, and A - B by 2, since 2 is -1. By 0 it is A, and B is looked at all the same.
+ * `out` is of A's size; what it held is not looked at.
+ * Order: SIZE, FACE_LIMIT, UNFIT, LENGTH (of a, b, out), DIGIT, SIGN and PADDING of A, then of B.
  */
-uint64_t nyuzolamba_sum(uint64_t a_rows, uint64_t a_columns, uint64_t b_rows, uint64_t b_columns, const uint8_t *a, size_t a_bytes,
-                        const uint8_t *b, size_t b_bytes, uint8_t *out, size_t out_bytes);
-
-/* out = A - B. All else as in nyuzolamba_sum. */
-uint64_t nyuzolamba_difference(uint64_t a_rows, uint64_t a_columns, uint64_t b_rows, uint64_t b_columns, const uint8_t *a, size_t a_bytes,
-                               const uint8_t *b, size_t b_bytes, uint8_t *out, size_t out_bytes);
+uint64_t nyuzolamba_combination(uint64_t a_rows, uint64_t a_columns, uint64_t b_rows, uint64_t b_columns, uint64_t digit, const uint8_t *a,
+                                size_t a_bytes, const uint8_t *b, size_t b_bytes, uint8_t *out, size_t out_bytes);
 
 /*
  * out = -A: 1 becomes 2 and 2 becomes 1. `out` is of A's size; what it held is not looked at.

@@ -50,16 +50,18 @@ static inline uint64_t judge(uint64_t a_rows, uint64_t a_columns, uint64_t b_row
     return DONE;
 }
 
-uint64_t face_sum(uint64_t a_rows, uint64_t a_columns, uint64_t b_rows, uint64_t b_columns, const uint8_t *a, size_t a_bytes, const uint8_t *b,
-                  size_t b_bytes, uint8_t *out, size_t out_bytes)
+uint64_t face_combination(uint64_t a_rows, uint64_t a_columns, uint64_t b_rows, uint64_t b_columns, uint64_t digit, const uint8_t *a, size_t a_bytes,
+                          const uint8_t *b, size_t b_bytes, uint8_t *out, size_t out_bytes)
 {
     uint64_t u[MOST_WORDS], v[MOST_WORDS], w[MOST_WORDS];
     uint64_t no = judge(a_rows, a_columns, b_rows, b_columns, a_rows == b_rows && a_columns == b_columns, a_bytes, b_bytes, out_bytes);
     if (no != DONE)
         return no;
+    if (digit > 2)
+        return DIGIT_WRONG;
     memcpy(u, a, a_bytes);
     memcpy(v, b, b_bytes);
-    no = matrix_sum(a_rows, a_columns, u, a_bytes / sizeof *u, v, b_bytes / sizeof *v, w, out_bytes / sizeof *w);
+    no = matrix_combination(a_rows, a_columns, (uint8_t)digit, u, a_bytes / sizeof *u, v, b_bytes / sizeof *v, w, out_bytes / sizeof *w);
     if (no == DONE)
         memcpy(out, w, out_bytes);
     return no;

@@ -4,6 +4,8 @@
 // `restrict`: the callers see to it that a buffer to be written shares no byte with another, as callers of ours must.
 #include "requests.h"
 
+#include <string.h>
+
 #include "rows.h"
 #include "tests.h"
 
@@ -23,12 +25,15 @@ INLINE uint64_t judge_one(uint64_t rows, uint64_t columns, const uint64_t *a, si
     return fault(1, rows, columns, a);
 }
 
-static uint64_t judge_two(uint64_t rows, uint64_t columns, const uint64_t *a, size_t a_len, const uint64_t *b, size_t b_len, size_t out_len)
+static uint64_t judge_two(uint64_t rows, uint64_t columns, uint8_t d, const uint64_t *a, size_t a_len, const uint64_t *b, size_t b_len,
+                          size_t out_len)
 {
     if (over(rows, columns))
         return TOO_LARGE;
     if (unfit(rows, columns, a_len) || unfit(rows, columns, b_len) || unfit(rows, columns, out_len))
         return LENGTH_WRONG;
+    if (d > 2)
+        return DIGIT_WRONG;
     uint64_t no = fault(1, rows, columns, a);
     return no != DONE ? no : fault(2, rows, columns, b);
 }
@@ -38,28 +43,27 @@ uint64_t matrix_check(uint64_t rows, uint64_t columns, const uint64_t *a, size_t
     return judge_one(rows, columns, a, a_len, rows, columns, a_len);
 }
 
-INLINE uint64_t rows_made(operation *op, uint64_t rows, uint64_t columns, const uint64_t *a, size_t a_len, const uint64_t *b, size_t b_len,
-                          uint64_t *restrict out, size_t out_len)
+INLINE void make_rows(operation *op, uint64_t rows, uint64_t columns, const uint64_t *a, const uint64_t *b, uint64_t *restrict out)
 {
-    uint64_t no = judge_two(rows, columns, a, a_len, b, b_len, out_len);
-    if (no != DONE)
-        return no;
     size_t q = planes(columns);
     for (size_t i = 0; i < rows; i++)
         make_row(op, out + 2 * q * i, a + 2 * q * i, b + 2 * q * i, q);
+}
+
+// A loop for each digit, chosen once: no loop costs what it would with masks.
+uint64_t matrix_combination(uint64_t rows, uint64_t columns, uint8_t d, const uint64_t *a, size_t a_len, const uint64_t *b, size_t b_len,
+                            uint64_t *out, size_t out_len)
+{
+    uint64_t no = judge_two(rows, columns, d, a, a_len, b, b_len, out_len);
+    if (no != DONE)
+        return no;
+    if (d == 0)
+        memcpy(out, a, sizeof *out * out_len);
+    else if (d == 1)
+        make_rows(sum, rows, columns, a, b, out);
+    else
+        make_rows(difference, rows, columns, a, b, out);
     return DONE;
-}
-
-uint64_t matrix_sum(uint64_t rows, uint64_t columns, const uint64_t *a, size_t a_len, const uint64_t *b, size_t b_len, uint64_t *out,
-                    size_t out_len)
-{
-    return rows_made(sum, rows, columns, a, a_len, b, b_len, out, out_len);
-}
-
-uint64_t matrix_difference(uint64_t rows, uint64_t columns, const uint64_t *a, size_t a_len, const uint64_t *b, size_t b_len, uint64_t *out,
-                           size_t out_len)
-{
-    return rows_made(difference, rows, columns, a, a_len, b, b_len, out, out_len);
 }
 
 INLINE void scale_rows(uint8_t d, uint64_t rows, uint64_t columns, const uint64_t *a, uint64_t *restrict out)

@@ -4,8 +4,8 @@
 #include <stdio.h>
 #include <string.h>
 
-enum call { CHECK, NEGATION, SUM, DIFFERENCE, PRODUCT, OPEN, TURN };
-static const char *const CALL[] = {"check", "negation", "sum", "difference", "product", "open", "turn"};
+enum call { CHECK, NEGATION, COMBINATION_0, COMBINATION_1, COMBINATION_2, PRODUCT, OPEN, TURN };
+static const char *const CALL[] = {"check", "negation", "combination by 0", "combination by 1", "combination by 2", "product", "open", "turn"};
 
 /* The buffers here: A to P have the numbers that words have for them, and P is every result. */
 enum { RECORD = 0, A = 1, B = 2, T = 3, P = 4, BUFFERS = 5 };
@@ -20,9 +20,9 @@ struct fault {
 };
 
 /* What is wrong beside cells. */
-enum twist { FITTING, ROWS_1025, ROWS_65, MISFIT, WIDTH_9, WIDTH_0, A_SHORT, P_LONG, RECORD_SHORT, STEPS_MANY };
+enum twist { FITTING, ROWS_1025, ROWS_65, MISFIT, WIDTH_9, WIDTH_0, A_SHORT, P_LONG, RECORD_SHORT, STEPS_MANY, DIGIT_3, DIGIT_WIDE };
 
-/* A is m by l. B is as large for a sum or difference, and else l by n. */
+/* A is m by l. B is as large for a combination, and else l by n. */
 struct example {
     enum call call;
     unsigned m, l, n;
@@ -38,8 +38,9 @@ static const struct example EXAMPLES[] = {
     /* Legal ones: all digits, and no bit beyond them. */
     {CHECK, 10, 62, 0, {{0}}, FITTING, WORD(00000000, 0000, 00, 00), 0, 0, 0, 0},
     {NEGATION, 64, 64, 0, {{0}}, FITTING, WORD(00000000, 0000, 00, 00), 0, 0, 0, 0},
-    {SUM, 64, 3, 0, {{0}}, FITTING, WORD(00000000, 0000, 00, 00), 0, 0, 0, 0},
-    {DIFFERENCE, 1, 1, 0, {{0}}, FITTING, WORD(00000000, 0000, 00, 00), 0, 0, 0, 0},
+    {COMBINATION_0, 10, 62, 0, {{0}}, FITTING, WORD(00000000, 0000, 00, 00), 0, 0, 0, 0},
+    {COMBINATION_1, 64, 3, 0, {{0}}, FITTING, WORD(00000000, 0000, 00, 00), 0, 0, 0, 0},
+    {COMBINATION_2, 1, 1, 0, {{0}}, FITTING, WORD(00000000, 0000, 00, 00), 0, 0, 0, 0},
     {PRODUCT, 64, 62, 3, {{0}}, FITTING, WORD(00000000, 0000, 00, 00), 0, 0, 0, 0},
     {OPEN, 10, 62, 3, {{0}}, FITTING, WORD(00000000, 0000, 00, 00), 0, 0, 0, 0},
     {TURN, 10, 62, 3, {{0}}, FITTING, WORD(00000000, 0000, 00, 00), 0, 0, 0, 0},
@@ -47,7 +48,7 @@ static const struct example EXAMPLES[] = {
     {CHECK, 10, 62, 0, {{A, 0, 0, SIGN}}, FITTING, WORD(00000000, 0000, 01, 05), 5, 1, 0, 0},
     {CHECK, 64, 64, 0, {{A, 63, 63, SIGN}}, FITTING, WORD(0000003f, 003f, 01, 05), 5, 1, 63, 63},
     {CHECK, 10, 62, 0, {{A, 9, 61, SIGN}, {A, 0, 62, BOTH}}, FITTING, WORD(0000003d, 0009, 01, 05), 5, 1, 9, 61},
-    {SUM, 10, 62, 0, {{A, 9, 61, SIGN}, {A, 0, 63, UNIT}, {B, 0, 0, SIGN}}, FITTING, WORD(0000003d, 0009, 01, 05), 5, 1, 9, 61},
+    {COMBINATION_1, 10, 62, 0, {{A, 9, 61, SIGN}, {A, 0, 63, UNIT}, {B, 0, 0, SIGN}}, FITTING, WORD(0000003d, 0009, 01, 05), 5, 1, 9, 61},
     {PRODUCT, 1, 1, 1, {{A, 0, 0, SIGN}, {A, 0, 1, SIGN}}, FITTING, WORD(00000000, 0000, 01, 05), 5, 1, 0, 0},
     /* A padding bit: in either plane, in both, and sign alone there is no sign without unit. */
     {CHECK, 4, 3, 0, {{A, 0, 63, UNIT}}, FITTING, WORD(0000003f, 0000, 01, 06), 6, 1, 0, 63},
@@ -61,9 +62,10 @@ static const struct example EXAMPLES[] = {
     {CHECK, 4, 3, 0, {{A, 2, 12, SIGN}, {A, 2, 11, UNIT}}, FITTING, WORD(0000000b, 0002, 01, 06), 6, 1, 2, 11},
     {CHECK, 4, 3, 0, {{A, 3, 3, UNIT}, {A, 1, 60, SIGN}}, FITTING, WORD(0000003c, 0001, 01, 06), 6, 1, 1, 60},
     /* Faults of B, and of A before those of B: one buffer is finished before the next. */
-    {SUM, 10, 62, 0, {{B, 4, 20, SIGN}, {B, 0, 62, UNIT}}, FITTING, WORD(00000014, 0004, 02, 05), 5, 2, 4, 20},
-    {SUM, 10, 62, 0, {{A, 9, 62, SIGN}, {B, 0, 0, SIGN}}, FITTING, WORD(0000003e, 0009, 01, 06), 6, 1, 9, 62},
-    {DIFFERENCE, 10, 62, 0, {{B, 7, 63, SIGN}, {B, 8, 62, UNIT}}, FITTING, WORD(0000003f, 0007, 02, 06), 6, 2, 7, 63},
+    {COMBINATION_1, 10, 62, 0, {{B, 4, 20, SIGN}, {B, 0, 62, UNIT}}, FITTING, WORD(00000014, 0004, 02, 05), 5, 2, 4, 20},
+    {COMBINATION_1, 10, 62, 0, {{A, 9, 62, SIGN}, {B, 0, 0, SIGN}}, FITTING, WORD(0000003e, 0009, 01, 06), 6, 1, 9, 62},
+    {COMBINATION_0, 10, 62, 0, {{B, 4, 21, SIGN}, {B, 0, 62, UNIT}}, FITTING, WORD(00000015, 0004, 02, 05), 5, 2, 4, 21},
+    {COMBINATION_2, 10, 62, 0, {{B, 7, 63, SIGN}, {B, 8, 62, UNIT}}, FITTING, WORD(0000003f, 0007, 02, 06), 6, 2, 7, 63},
     {PRODUCT, 2, 64, 3, {{B, 63, 2, SIGN}, {B, 0, 3, BOTH}}, FITTING, WORD(00000002, 003f, 02, 05), 5, 2, 63, 2},
     {PRODUCT, 2, 64, 3, {{B, 1, 4, UNIT}, {B, 2, 3, UNIT}}, FITTING, WORD(00000004, 0001, 02, 06), 6, 2, 1, 4},
     {OPEN, 10, 62, 3, {{A, 2, 1, SIGN}, {A, 2, 0, SIGN}}, FITTING, WORD(00000000, 0002, 01, 05), 5, 1, 2, 0},
@@ -79,7 +81,9 @@ static const struct example EXAMPLES[] = {
     {CHECK, 10, 62, 0, {{A, 0, 0, SIGN}}, ROWS_1025, WORD(00000000, 0000, 00, 01), 1, 0, 0, 0},
     {CHECK, 10, 62, 0, {{A, 0, 0, SIGN}}, ROWS_65, WORD(00000000, 0000, 00, 0b), 11, 0, 0, 0},
     {NEGATION, 10, 62, 0, {{A, 0, 0, SIGN}}, P_LONG, WORD(00000000, 0000, 00, 04), 4, 0, 0, 0},
-    {SUM, 10, 62, 0, {{B, 9, 61, SIGN}}, MISFIT, WORD(00000000, 0000, 00, 02), 2, 0, 0, 0},
+    {COMBINATION_1, 10, 62, 0, {{B, 9, 61, SIGN}}, MISFIT, WORD(00000000, 0000, 00, 02), 2, 0, 0, 0},
+    {COMBINATION_1, 10, 62, 0, {{A, 0, 0, SIGN}}, DIGIT_3, WORD(00000000, 0000, 00, 08), 8, 0, 0, 0},
+    {COMBINATION_1, 10, 62, 0, {{B, 0, 62, UNIT}}, DIGIT_WIDE, WORD(00000000, 0000, 00, 08), 8, 0, 0, 0},
     {PRODUCT, 10, 62, 3, {{A, 9, 61, SIGN}}, MISFIT, WORD(00000000, 0000, 00, 02), 2, 0, 0, 0},
     {OPEN, 10, 62, 3, {{A, 0, 62, UNIT}}, WIDTH_9, WORD(00000000, 0000, 00, 03), 3, 0, 0, 0},
     {OPEN, 10, 62, 3, {{A, 0, 0, SIGN}}, RECORD_SHORT, WORD(00000000, 0000, 00, 04), 4, 0, 0, 0},
@@ -95,7 +99,7 @@ enum { WIDTH = 8, MOST_BYTES = (1 << WIDTH) * 16 + 1 };
 
 /* All that a call is handed. */
 struct given {
-    uint64_t a_rows, a_columns, b_rows, b_columns, width;
+    uint64_t a_rows, a_columns, b_rows, b_columns, width, digit;
     size_t bytes[BUFFERS];
     uint8_t buffer[BUFFERS][MOST_BYTES];
 };
@@ -132,6 +136,7 @@ static void make(struct given *given, const struct example *e)
     given->b_rows = factors ? e->l : e->m;
     given->b_columns = columns;
     given->width = WIDTH;
+    given->digit = e->call == COMBINATION_1 ? 1 : e->call == COMBINATION_2 ? 2 : 0;
     given->bytes[RECORD] = NYUZOLAMBA_RECORD_BYTES;
     given->bytes[T] = 16 << WIDTH;
     given->bytes[P] = 16 * e->m;
@@ -161,6 +166,8 @@ static void disturb(struct given *given, enum twist twist)
     case P_LONG: given->bytes[P]++; break;
     case RECORD_SHORT: given->bytes[RECORD]--; break;
     case STEPS_MANY: steps = 1000000; break;
+    case DIGIT_3: given->digit = 3; break;
+    case DIGIT_WIDE: given->digit = (UINT64_C(1) << 32) + 1; break;
     }
     nyuzolamba_set_word(given->buffer[RECORD], NYUZOLAMBA_A_ROWS, given->a_rows);
     nyuzolamba_set_word(given->buffer[RECORD], NYUZOLAMBA_MIDDLE, given->a_columns);
@@ -176,8 +183,10 @@ static uint64_t asked(enum call call, struct given *g)
     switch (call) {
     case CHECK: return nyuzolamba_check(g->a_rows, g->a_columns, a, of_a);
     case NEGATION: return nyuzolamba_negation(g->a_rows, g->a_columns, a, of_a, p, of_p);
-    case SUM: return nyuzolamba_sum(g->a_rows, g->a_columns, g->b_rows, g->b_columns, a, of_a, b, of_b, p, of_p);
-    case DIFFERENCE: return nyuzolamba_difference(g->a_rows, g->a_columns, g->b_rows, g->b_columns, a, of_a, b, of_b, p, of_p);
+    case COMBINATION_0:
+    case COMBINATION_1:
+    case COMBINATION_2:
+        return nyuzolamba_combination(g->a_rows, g->a_columns, g->b_rows, g->b_columns, g->digit, a, of_a, b, of_b, p, of_p);
     case PRODUCT: return nyuzolamba_product(g->a_rows, g->a_columns, g->b_rows, g->b_columns, a, of_a, b, of_b, p, of_p);
     case OPEN:
         return nyuzolamba_open(g->a_rows, g->a_columns, g->b_rows, g->b_columns, g->width, record, of_record, a, of_a, b, of_b, t, of_t, p, of_p);

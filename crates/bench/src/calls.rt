@@ -16,18 +16,10 @@ pub extern "C" fn bench_check(rows: u64, columns: u64, a: &[u64]) -> u64 {
 }
 
 #[no_mangle]
-pub extern "C" fn bench_sum(rows: u64, columns: u64, a: &[u64], b: &[u64], out: &mut [u64]) -> u64 {
-    let s = Size {
-        rows: rows,
-        columns: columns,
-    };
-    word(matrix::sum::sum(s, s, a, b, out))
-}
-
-#[no_mangle]
-pub extern "C" fn bench_difference(
+pub extern "C" fn bench_combination(
     rows: u64,
     columns: u64,
+    d: u8,
     a: &[u64],
     b: &[u64],
     out: &mut [u64],
@@ -36,7 +28,7 @@ pub extern "C" fn bench_difference(
         rows: rows,
         columns: columns,
     };
-    word(matrix::difference::difference(s, s, a, b, out))
+    word(matrix::combination::combination(s, s, d, a, b, out))
 }
 
 #[no_mangle]

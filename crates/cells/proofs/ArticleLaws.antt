@@ -3,7 +3,7 @@
 use mathlib.Core.Path.{_≡_, refl}
 use mathlib.Core.List.{[], _∷_}
 use Prim.Native.Nat.{ℕ}
-use Rattle.cells.specs.Digit.{add3, sub3}
+use Rattle.cells.specs.Digit.{combine}
 use Rattle.cells.specs.Pair.{digit, Holds}
 use Rattle.cells.proofs.FormLaws.{Form, U, S, _&_, _∣_, _⊕_, words, bits, AllLegal, AllFit, law, on2}
 
@@ -28,10 +28,10 @@ pub sum-printed : (bits ((1, 0) ∷ (0, 0) ∷ []) sum-r0 ≡ 0) × (bits ((1, 0
 sum-printed = (refl, refl)
 
 -- with its two results exchanged it is the sum
-pub sum-exchanged : (x y : ℕ × ℕ) → AllLegal (x ∷ y ∷ []) → AllFit (x ∷ y ∷ []) → Holds (λ t. add3 (at x t) (at y t)) (words (x ∷ y ∷ []) sum-r1) (words (x ∷ y ∷ []) sum-r0)
-unfolding add3
-sum-exchanged x y l w = law sum-r1 sum-r0 (on2 add3) (x ∷ y ∷ []) tt l w
+pub sum-exchanged : (x y : ℕ × ℕ) → AllLegal (x ∷ y ∷ []) → AllFit (x ∷ y ∷ []) → Holds (λ t. combine 1 (at x t) (at y t)) (words (x ∷ y ∷ []) sum-r1) (words (x ∷ y ∷ []) sum-r0)
+unfolding combine
+sum-exchanged x y l w = law sum-r1 sum-r0 (on2 (combine 1)) (x ∷ y ∷ []) tt l w
 
-pub difference-printed : (x y : ℕ × ℕ) → AllLegal (x ∷ y ∷ []) → AllFit (x ∷ y ∷ []) → Holds (λ t. sub3 (at x t) (at y t)) (words (x ∷ y ∷ []) difference-r0) (words (x ∷ y ∷ []) difference-r1)
-unfolding sub3
-difference-printed x y l w = law difference-r0 difference-r1 (on2 sub3) (x ∷ y ∷ []) tt l w
+pub difference-printed : (x y : ℕ × ℕ) → AllLegal (x ∷ y ∷ []) → AllFit (x ∷ y ∷ []) → Holds (λ t. combine 2 (at x t) (at y t)) (words (x ∷ y ∷ []) difference-r0) (words (x ∷ y ∷ []) difference-r1)
+unfolding combine
+difference-printed x y l w = law difference-r0 difference-r1 (on2 (combine 2)) (x ∷ y ∷ []) tt l w

@@ -1,10 +1,11 @@
--- A bit, and a digit, at each of the 64 places. Assumes nothing.
+-- A bit, and a digit, at each of the 64 places; sums with what is scaled. Assumes nothing.
 use mathlib.Core.Path.{_≡_, ap, _∙_}
-use Prim.Native.Nat.{ℕ, zero, suc, _+_, _-_, _/_, _%_, _^_, _≤_, _<_}
+use Prim.Native.Nat.{ℕ, zero, suc, _+_, _-_, _*_, _/_, _%_, _^_, _≤_, _<_}
+use native.Mathlib.Nat.{mul-comm}
 use native.Mathlib.Omega.{arith}
 use native.Mathlib.Decide.{decLt}
 use Rattle.cells.specs.Bit.{bit}
-use Rattle.cells.specs.Digit.{mul3}
+use Rattle.cells.specs.Digit.{mul3, combine}
 use Rattle.cells.specs.Pair.{digit, LegalPair, Holds}
 use Rattle.cells.specs.Scaling.{Spread}
 use Rattle.cells.proofs.WordLaws.{bit-high, bit-of-zero}
@@ -40,3 +41,8 @@ scale-law a b c e u s d ha hl h k = record { legal = k .legal; digits = λ t. k 
     go t (no n) =
         let z : digit a b t ≡ 0 = omega (arith, bit-high 64 a t ha (omega arith), hl t) in
         rw z (omega arith)
+
+-- a sum with d times b
+pub combine-scaled : (d a b : ℕ) → combine 1 a (mul3 b d) ≡ combine d a b
+unfolding combine mul3
+combine-scaled d a b = let e : d * b ≡ b * d = mul-comm d b in rw e (omega arith)

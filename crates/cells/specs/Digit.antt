@@ -2,11 +2,9 @@
 -- Assumes nothing.
 use Prim.Native.Nat.{ℕ, _+_, _-_, _*_, _%_, min}
 
-unfoldable pub add3 : ℕ → ℕ → ℕ
-add3 a b = (a + b) % 3
-
-unfoldable pub sub3 : ℕ → ℕ → ℕ
-sub3 a b = (a + 2 * b) % 3
+-- a plus the digit d times b: the sum for d = 1, the difference for d = 2
+unfoldable pub combine : ℕ → ℕ → ℕ → ℕ
+combine d a b = (a + d * b) % 3
 
 unfoldable pub neg3 : ℕ → ℕ
 neg3 a = 2 * a % 3

@@ -1,6 +1,6 @@
 // Sixty-four cells at once: a unit word and a sign word, by value. A cell is a digit of the field of three elements.
+pub mod combination;
 pub mod counts;
-pub mod difference;
 pub mod fault;
 pub mod lowest;
 pub mod mask;

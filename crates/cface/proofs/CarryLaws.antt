@@ -3,7 +3,10 @@
 use mathlib.Core.Path.{_≡_, refl, sym, ap, _∙_}
 use mathlib.Core.Bool.{false, _||_}
 use mathlib.Core.List.{List, [], _∷_, _++_}
-use Prim.Native.Nat.{ℕ, zero, suc, _*_}
+use Prim.Native.Nat.{ℕ, zero, suc, _*_, _≤_, _<_}
+use native.Mathlib.Omega.{arith}
+use borrow.Author.Tests.{ltb-false}
+use lib.Dec.{ltb}
 use lib.ListN.{length}
 use Rattle.cells.proofs.AnyLaws.{or-left, or-right}
 use Rattle.requests.specs.declared.Size.{Size}
@@ -17,15 +20,13 @@ use Rattle.requests.specs.Exact.{None}
 use Rattle.requests.proofs.AnswerLaws.{first-none, append-given, later, refused, done-makes}
 use Rattle.matrix.specs.Check.{checkTests, checkMeans}
 use Rattle.matrix.specs.Negation.{negationMeans}
-use Rattle.matrix.specs.Sum.{sumOf, sumMeans}
-use Rattle.matrix.specs.Difference.{differenceOf, differenceMeans}
+use Rattle.matrix.specs.Combination.{combinationOf, combinationMeans}
 use Rattle.wordbytes.specs.Bytes.{wordsIn, bytesOf}
 use Rattle.cface.specs.Limit.{above, unfitBytes}
 use Rattle.cface.specs.Check.{checkSizes, checkFaceTests, checkFace}
 use Rattle.cface.specs.Negation.{negationSizes, negationFaceTests, negationFace}
 use Rattle.cface.specs.Pair.{pairSizes, pairFaceTests}
-use Rattle.cface.specs.Sum.{sumFace}
-use Rattle.cface.specs.Difference.{differenceFace}
+use Rattle.cface.specs.Combination.{combinationFace}
 use Rattle.cface.proofs.LimitLaws.{Room, room, above-rows, above-columns, fits-words, fits-in, fits-a, fits-b, fits-out}
 
 -- tests that do not hold are passed over
@@ -117,12 +118,12 @@ module _ (s : Size) (a : List ℕ) (n : ℕ) (z : first (negationSizes s (length
       past-none ((over s, 1) ∷ (unfit s (length (wordsIn a)) || unfit s k, 4) ∷ []) (faults First s (wordsIn a)) (negation-none .0, (rw (fits-in s a negation-a) (fits-words s n k negation-out e), tt))
       ∙ sym (past-none (negationSizes s (length a) n) (faults First s (wordsIn a)) negation-none)
 
--- ---- sum and difference
+-- ---- combination
 
-module _ (x y : Size) (a b : List ℕ) (n : ℕ) (z : first (pairSizes x y (length a) (length b) n) ≡ 0) where
-  pair-none : None (pairSizes x y (length a) (length b) n)
+module _ (x y : Size) (d : ℕ) (a b : List ℕ) (n : ℕ) (z : first (pairSizes x y d (length a) (length b) n) ≡ 0) where
+  pair-none : None (pairSizes x y d (length a) (length b) n)
   unfolding pairSizes
-  pair-none = first-none (pairSizes x y (length a) (length b) n) tt z
+  pair-none = first-none (pairSizes x y d (length a) (length b) n) tt z
 
   pair-small : above x ≡ false
   unfolding pairSizes
@@ -153,12 +154,16 @@ module _ (x y : Size) (a b : List ℕ) (n : ℕ) (z : first (pairSizes x y (leng
   pub pair-room-out : Room 128 n
   pair-room-out = room x 64 n (above-rows x pair-small) (above-columns x pair-small) pair-out
 
-  pub pair-same : (k : ℕ) → n ≡ 8 * k → first (pairTests x y (wordsIn a) (wordsIn b) k) ≡ first (pairFaceTests x y a b n)
+  pub pair-same : (k : ℕ) → n ≡ 8 * k → first (pairTests x y d (wordsIn a) (wordsIn b) k) ≡ first (pairFaceTests x y d a b n)
   unfolding pairTests unfits pairFaceTests pairSizes
   pair-same k e =
-      past-none ((over x || over y, 1) ∷ (unequal x y, 2) ∷ (unfit x (length (wordsIn a)) || (unfit y (length (wordsIn b)) || unfit x k), 4) ∷ []) (faults First x (wordsIn a) ++ faults Second y (wordsIn b))
-      (pair-none .0, (pair-none .1 .1 .0, (rw (fits-in x a pair-a, fits-in y b pair-b) (fits-words x n k pair-out e), tt)))
-      ∙ sym (past-none (pairSizes x y (length a) (length b) n) (faults First x (wordsIn a) ++ faults Second y (wordsIn b)) pair-none)
+      past-none ((over x || over y, 1) ∷ (unequal x y, 2) ∷ (unfit x (length (wordsIn a)) || (unfit y (length (wordsIn b)) || unfit x k), 4) ∷ (ltb 2 d, 8) ∷ []) (faults First x (wordsIn a) ++ faults Second y (wordsIn b))
+      (pair-none .0, (pair-none .1 .1 .0, (rw (fits-in x a pair-a, fits-in y b pair-b) (fits-words x n k pair-out e), (pair-none .1 .1 .1 .1 .0, tt))))
+      ∙ sym (past-none (pairSizes x y d (length a) (length b) n) (faults First x (wordsIn a) ++ faults Second y (wordsIn b)) pair-none)
+
+  pub pair-digit : d < 3
+  unfolding pairSizes
+  pair-digit = let h : d ≤ 2 = ltb-false 2 d (pair-none .1 .1 .1 .1 .0) in omega arith
 
 pub negation-carried : (s : Size) (a out u w w′ : List ℕ) (f n : ℕ) → first (negationSizes s (length a) (length out)) ≡ 0 → length out ≡ 8 * length w → u ≡ wordsIn a → f ≡ n
     → (n, w′) ≡ negationMeans s u w → (f, left f out (bytesOf w′)) ≡ negationFace s a out
@@ -166,17 +171,9 @@ unfolding negationMeans negationFace
 negation-carried s a out u w w′ f n z room eu e says =
     carried bytesOf (singleTests s s (wordsIn a) (length w)) _ w _ w′ out _ f n e (rw eu at says) (negation-same s a (length out) z (length w) room) (λ _ m. ap bytesOf m)
 
-pair-carried : (op : List ℕ → List ℕ → List ℕ) (x y : Size) (a b out u v w w′ : List ℕ) (f n : ℕ) → first (pairSizes x y (length a) (length b) (length out)) ≡ 0 → length out ≡ 8 * length w
-    → u ≡ wordsIn a → v ≡ wordsIn b → f ≡ n → (n, w′) ≡ answered (pairTests x y u v (length w)) w (op u v)
-    → (f, left f out (bytesOf w′)) ≡ answered (pairFaceTests x y a b (length out)) out (bytesOf (op (wordsIn a) (wordsIn b)))
-pair-carried op x y a b out u v w w′ f n z room eu ev e says =
-    carried bytesOf (pairTests x y (wordsIn a) (wordsIn b) (length w)) _ w (op (wordsIn a) (wordsIn b)) w′ out _ f n e (rw (eu, ev) at says) (pair-same x y a b (length out) z (length w) room) (λ _ m. ap bytesOf m)
-
-module _ (x y : Size) (a b out u v w w′ : List ℕ) (f n : ℕ) (z : first (pairSizes x y (length a) (length b) (length out)) ≡ 0) (room : length out ≡ 8 * length w) (eu : u ≡ wordsIn a) (ev : v ≡ wordsIn b) (e : f ≡ n) where
-  pub sum-carried : (n, w′) ≡ sumMeans x y u v w → (f, left f out (bytesOf w′)) ≡ sumFace x y a b out
-  unfolding sumMeans sumFace
-  sum-carried says = pair-carried (sumOf (x .rows) (x .columns)) x y a b out u v w w′ f n z room eu ev e says
-
-  pub difference-carried : (n, w′) ≡ differenceMeans x y u v w → (f, left f out (bytesOf w′)) ≡ differenceFace x y a b out
-  unfolding differenceMeans differenceFace
-  difference-carried says = pair-carried (differenceOf (x .rows) (x .columns)) x y a b out u v w w′ f n z room eu ev e says
+pub combination-carried : (x y : Size) (d : ℕ) (a b out u v w w′ : List ℕ) (f n : ℕ) → first (pairSizes x y d (length a) (length b) (length out)) ≡ 0 → length out ≡ 8 * length w
+    → u ≡ wordsIn a → v ≡ wordsIn b → f ≡ n → (n, w′) ≡ combinationMeans x y d u v w → (f, left f out (bytesOf w′)) ≡ combinationFace x y d a b out
+unfolding combinationMeans combinationFace
+combination-carried x y d a b out u v w w′ f n z room eu ev e says =
+    carried bytesOf (pairTests x y d (wordsIn a) (wordsIn b) (length w)) _ w (combinationOf d (x .rows) (x .columns) (wordsIn a) (wordsIn b)) w′ out _ f n e (rw (eu, ev) at says)
+    (pair-same x y d a b (length out) z (length w) room) (λ _ m. ap bytesOf m)

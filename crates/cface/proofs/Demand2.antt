@@ -8,7 +8,7 @@ use native.Mathlib.Omega.{arith}
 use lib.Dec.{ltb, eqb}
 use lib.ListN.{length}
 use borrow.Author.Tests.{ltb-false}
-use Rattle.cells.specs.Digit.{add3, sub3, neg3}
+use Rattle.cells.specs.Digit.{combine, neg3}
 use Rattle.cells.proofs.AnyLaws.{or-left, or-right}
 use Rattle.buffers.specs.Buffer.{cell, Words}
 use Rattle.buffers.proofs.SizeLaws.{cell-lt}
@@ -24,21 +24,19 @@ use Rattle.steps.proofs.Most.{quote-most, total-most}
 use Rattle.walk.specs.Ran.{found}
 use Rattle.matrix.specs.declared.job.Job.{Job}
 use Rattle.matrix.specs.Job.{meant, totalOf}
-use Rattle.matrix.specs.Sum.{sumOf}
-use Rattle.matrix.specs.Difference.{differenceOf}
+use Rattle.matrix.specs.Combination.{combinationOf}
 use Rattle.matrix.specs.Negation.{negationOf}
 use Rattle.matrix.specs.Opening.{newJob}
 use Rattle.matrix.specs.Turn.{sizeA, sizeB, leftOf, madeOf, onJob, turnedOf}
 use Rattle.matrix.specs.Record.{recordOf}
-use Rattle.matrix.proofs.FieldLaws.{add-lt, sub-lt, neg-lt}
+use Rattle.matrix.proofs.FieldLaws.{combine-lt, neg-lt}
 use Rattle.matrix.proofs.JobLaws.{meant-le}
 use Rattle.wordbytes.specs.Bytes.{wordsIn, bytesOf}
 use Rattle.wordbytes.specs.ShowsBytes.{ShowsBytes}
 use Rattle.wordbytes.proofs.ByteLaws.{words-bytes, bytes-length}
 use Rattle.wordbytes.proofs.ShowsBytesLaws.{encode-shows-bytes}
 use Rattle.cface.specs.Limit.{above}
-use Rattle.cface.specs.Sum.{sumFace}
-use Rattle.cface.specs.Difference.{differenceFace}
+use Rattle.cface.specs.Combination.{combinationFace}
 use Rattle.cface.specs.Negation.{negationFace}
 use Rattle.cface.specs.Count.{ShowsCount, countTests}
 use Rattle.cface.specs.Width.{widthFace}
@@ -49,23 +47,19 @@ use Rattle.cface.specs.Turn.{turnSizes, turnFaceTests, turnFace}
 use Rattle.cface.specs.Stands.{Held}
 use Rattle.cface.specs.JobShows.{OpenedJob, foundIn, TurnedJob}
 use Rattle.cface.proofs.LimitLaws.{above-rows, above-columns}
-use Rattle.cface.proofs.Refusals.{sum-exact, difference-exact, negation-exact, product-exact, width-exact, quote-exact, open-exact, turn-exact}
+use Rattle.cface.proofs.Refusals.{combination-exact, negation-exact, product-exact, width-exact, quote-exact, open-exact, turn-exact}
 use Rattle.cface.proofs.Turns.{record-words}
 
 module _ (x y : Size) (a b out : List ℕ) (r : ℕ) (o : List ℕ) where
   abbrev c : ℕ
   c = x .columns
 
-  pub sum-right : (r, o) ≡ sumFace x y a b out → r ≡ 0 → ShowsBytes (x .rows) c (λ i j. (cell c (wordsIn a) i j + cell c (wordsIn b) i j) % 3) o
-  unfolding sumOf add3
-  sum-right says z =
-      rw (sum-exact x y a b out r o says .right z) (encode-shows-bytes (x .rows) c (λ i j. add3 (cell c (wordsIn a) i j) (cell c (wordsIn b) i j)) (λ i j h l. add-lt (cell c (wordsIn a) i j) (cell c (wordsIn b) i j)))
-
-  -- 2 is -1
-  pub difference-right : (r, o) ≡ differenceFace x y a b out → r ≡ 0 → ShowsBytes (x .rows) c (λ i j. (cell c (wordsIn a) i j + 2 * cell c (wordsIn b) i j) % 3) o
-  unfolding differenceOf sub3
-  difference-right says z =
-      rw (difference-exact x y a b out r o says .right z) (encode-shows-bytes (x .rows) c (λ i j. sub3 (cell c (wordsIn a) i j) (cell c (wordsIn b) i j)) (λ i j h l. sub-lt (cell c (wordsIn a) i j) (cell c (wordsIn b) i j)))
+  -- X plus d times Y
+  pub combination-right : (d : ℕ) → (r, o) ≡ combinationFace x y d a b out → r ≡ 0 → ShowsBytes (x .rows) c (λ i j. (cell c (wordsIn a) i j + d * cell c (wordsIn b) i j) % 3) o
+  unfolding combinationOf combine
+  combination-right d says z =
+      rw (combination-exact x y d a b out r o says .right z)
+      (encode-shows-bytes (x .rows) c (λ i j. combine d (cell c (wordsIn a) i j) (cell c (wordsIn b) i j)) (λ i j h l. combine-lt d (cell c (wordsIn a) i j) (cell c (wordsIn b) i j)))
 
   pub product-right : (r, o) ≡ productFace x y a b out → r ≡ 0 → ShowsBytes (x .rows) (y .columns) (schoolbook c (cell c (wordsIn a)) (cell (y .columns) (wordsIn b))) o
   unfolding schoolbook

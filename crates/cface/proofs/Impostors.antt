@@ -2,14 +2,14 @@
 -- computed from the calls' statements, in bytes. Assumes nothing.
 use mathlib.Core.Path.{_≡_, refl, ap}
 use mathlib.Core.List.{List, [], _∷_}
-use Prim.Native.Nat.{ℕ, _+_, _^_}
+use Prim.Native.Nat.{ℕ, _+_, _*_, _^_}
 use native.Mathlib.Omega.{arith}
 use lib.Count.{trailingZeros}
 use lib.ListN.{getD}
 use Rattle.cells.specs.Any.{any, least}
 use Rattle.cells.specs.Bit.{bit, wordOf}
 use Rattle.cells.specs.Counts.{sum, is, bitsOf}
-use Rattle.cells.specs.Digit.{add3, sub3, neg3, unitOf, signOf}
+use Rattle.cells.specs.Digit.{combine, neg3, unitOf, signOf}
 use Rattle.buffers.specs.Buffer.{planes, wide, words, bitAt, unit, sign, cell, tab, joined, plane, encode}
 use Rattle.buffers.specs.Fault.{stray, padded, strayAt, paddedAt}
 use Rattle.requests.specs.declared.Size.{Size}
@@ -26,8 +26,7 @@ use Rattle.steps.specs.Width.{better, cheapest, defaultWidth}
 use Rattle.steps.specs.Turn.{due, made, turn}
 use Rattle.walk.specs.Ran.{found}
 use Rattle.matrix.specs.Job.{meant}
-use Rattle.matrix.specs.Sum.{sumOf}
-use Rattle.matrix.specs.Difference.{differenceOf}
+use Rattle.matrix.specs.Combination.{combinationOf}
 use Rattle.matrix.specs.Negation.{negationOf}
 use Rattle.matrix.specs.Turn.{turnedOf}
 use Rattle.matrix.specs.Record.{jobIn, recordOf}
@@ -35,8 +34,7 @@ use Rattle.wordbytes.specs.Bytes.{byteOf, valueOf, wordsIn, bytesOf}
 use Rattle.cface.specs.Limit.{above, unfitBytes, misfitBytes}
 use Rattle.cface.specs.Check.{checkSizes, checkFaceTests, checkFace}
 use Rattle.cface.specs.Pair.{pairSizes, pairFaceTests}
-use Rattle.cface.specs.Sum.{sumFace}
-use Rattle.cface.specs.Difference.{differenceFace}
+use Rattle.cface.specs.Combination.{combinationFace}
 use Rattle.cface.specs.Negation.{negationSizes, negationFaceTests, negationFace}
 use Rattle.cface.specs.Count.{unfitCount, countTests}
 use Rattle.cface.specs.Width.{widthFace}
@@ -88,8 +86,8 @@ Left = List ℕ × (List ℕ × List ℕ)
 
 pub record Sums : Type 0 where
   pub checked : (checkFace one one1 ≡ 0) × (checkFace one stray1 ≡ 5 + 2 ^ 8)
-  pub added : (sumFace one one one1 one1 zero1 ≡ (0, two1)) × (sumFace one one one1 two1 zero1 ≡ (0, zero1))
-  pub subtracted : (differenceFace one one zero1 one1 zero1 ≡ (0, two1)) × (differenceFace one one one1 one1 zero1 ≡ (0, zero1))
+  pub added : (combinationFace one one 1 one1 one1 zero1 ≡ (0, two1)) × (combinationFace one one 1 one1 two1 zero1 ≡ (0, zero1))
+  pub kept : (combinationFace one one 0 two1 one1 zero1 ≡ (0, two1)) × (combinationFace one one 0 two1 stray1 zero1 ≡ (5 + 2 * 2 ^ 8, zero1)) × (combinationFace one one (2 ^ 32 + 1) stray1 one1 zero1 ≡ (8, zero1))
   pub negated : (negationFace one one1 zero1 ≡ (0, two1)) × (negationFace one zero1 zero1 ≡ (0, zero1))
   pub multiplied : (productFace one one two1 one1 zero1 ≡ (0, two1)) × (productFace one one zero1 one1 zero1 ≡ (0, zero1))
   pub chosen : (widthFace one 0 (eight 0 []) ≡ (0, eight 1 [])) × (widthFace square 0 (eight 0 []) ≡ (0, eight 4 []))
@@ -98,11 +96,11 @@ pub record Sums : Type 0 where
   pub moved : (turnFace (job 1 1 0 0) two1 one1 newTable zero1 2 ≡ (0, (job 1 1 2 1, (madeTable, two1)))) × (turnFace (job 1 1 0 0) zero1 one1 newTable zero1 2 ≡ (0, (job 1 1 1 1, (madeTable, zero1))))
 
 pub sums : Sums
-unfolding checkFace checkFaceTests checkSizes sumFace sumOf differenceFace differenceOf pairFaceTests pairSizes negationFace negationFaceTests negationSizes negationOf productFace productFaceTests productSizes openFace openFaceTests openSizes turnFace turnFaceTests turnSizes unfitRecord jobIn recordOf unfitBytes misfitBytes above wordsIn bytesOf valueOf byteOf turnedOf turn made countTests unfitCount widthFace quoteFace meant defaultWidth cheapest better quote due found schoolbook sum total steps blocks blockWidth blockSteps rowSteps tableSteps each many unless0 bitsOf lowestBit cleared put apply run opening answered first left over unequal faults placed stray padded strayAt paddedAt least any unit sign cell bitAt bit planes wide words encode joined plane tab wordOf unitOf signOf add3 sub3 neg3 is trailingZeros
+unfolding checkFace checkFaceTests checkSizes combinationFace combinationOf pairFaceTests pairSizes negationFace negationFaceTests negationSizes negationOf productFace productFaceTests productSizes openFace openFaceTests openSizes turnFace turnFaceTests turnSizes unfitRecord jobIn recordOf unfitBytes misfitBytes above wordsIn bytesOf valueOf byteOf turnedOf turn made countTests unfitCount widthFace quoteFace meant defaultWidth cheapest better quote due found schoolbook sum total steps blocks blockWidth blockSteps rowSteps tableSteps each many unless0 bitsOf lowestBit cleared put apply run opening answered first left over unequal faults placed stray padded strayAt paddedAt least any unit sign cell bitAt bit planes wide words encode joined plane tab wordOf unitOf signOf combine neg3 is trailingZeros
 sums = record {
   checked = (refl, refl);
   added = (refl, refl);
-  subtracted = (refl, refl);
+  kept = (refl, refl, refl);
   negated = (refl, refl);
   multiplied = (refl, refl);
   chosen = (refl, refl);
@@ -121,11 +119,8 @@ two-zero e = let z : _≡_ {A = ℕ} 1 0 = ap (λ (l : List ℕ). getD l 0 0) e 
 pub face-check-shown-out : AnswerShownOut {X = Size} {I = List ℕ} itself checkFace
 face-check-shown-out = answer-shown-out itself checkFace one one1 stray1 (5 + 2 ^ 8) (sums .checked .0) (sums .checked .1) (λ e. omega arith)
 
-pub face-sum-shown-out : ShownOut {X = Size × Size × List ℕ × List ℕ} {I = List ℕ} {S = List ℕ} itself (λ x b. sumFace (x .0) (x .1) (x .2) b (x .3))
-face-sum-shown-out = shown-out itself _ (one, one, one1, zero1) one1 two1 two1 zero1 (sums .added .0) (sums .added .1) two-zero
-
-pub face-difference-shown-out : ShownOut {X = Size × Size × List ℕ × List ℕ} {I = List ℕ} {S = List ℕ} itself (λ x a. differenceFace (x .0) (x .1) a (x .2) (x .3))
-face-difference-shown-out = shown-out itself _ (one, one, one1, zero1) zero1 one1 two1 zero1 (sums .subtracted .0) (sums .subtracted .1) two-zero
+pub face-combination-shown-out : ShownOut {X = Size × Size × ℕ × List ℕ × List ℕ} {I = List ℕ} {S = List ℕ} itself (λ x b. combinationFace (x .0) (x .1) (x .2) (x .3) b (x .4))
+face-combination-shown-out = shown-out itself _ (one, one, 1, one1, zero1) one1 two1 two1 zero1 (sums .added .0) (sums .added .1) two-zero
 
 pub face-negation-shown-out : ShownOut {X = Size × List ℕ} {I = List ℕ} {S = List ℕ} itself (λ x a. negationFace (x .0) a (x .1))
 face-negation-shown-out = shown-out itself _ (one, zero1) one1 zero1 two1 zero1 (sums .negated .0) (sums .negated .1) two-zero

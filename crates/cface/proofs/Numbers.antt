@@ -40,15 +40,17 @@ negation-worded s a n = record {
   fits = fits-here _ 1 _ (λ _. omega arith) (λ h. fits-here _ 11 _ (λ _. omega arith) (λ _. fits-here _ 4 _ (λ _. omega arith) (λ _. faults-fit First s (wordsIn a) h)));
 }
 
--- of sum and difference
-pub pair-worded : (x y : Size) (a b : List ℕ) (n : ℕ)
-    → Worded (pairFaceTests x y a b n) (pairSizes x y (length a) (length b) n ++ (faultNumbers x (wordsIn a) ++ faultNumbers y (wordsIn b)))
+-- of a combination
+pub pair-worded : (x y : Size) (d : ℕ) (a b : List ℕ) (n : ℕ)
+    → Worded (pairFaceTests x y d a b n) (pairSizes x y d (length a) (length b) n ++ (faultNumbers x (wordsIn a) ++ faultNumbers y (wordsIn b)))
 unfolding pairFaceTests pairSizes
-pair-worded x y a b n = record {
-  numbers-are = ap (λ (l : Tests). pairSizes x y (length a) (length b) n ++ l) (pair-numbers First Second x y (wordsIn a) (wordsIn b));
+pair-worded x y d a b n = record {
+  numbers-are = ap (λ (l : Tests). pairSizes x y d (length a) (length b) n ++ l) (pair-numbers First Second x y (wordsIn a) (wordsIn b));
   fits = fits-here _ 1 _ (λ _. omega arith) (λ h.
       fits-here _ 11 _ (λ _. omega arith) (λ _.
-      fits-here _ 2 _ (λ _. omega arith) (λ _. fits-here _ 4 _ (λ _. omega arith) (λ _. pair-fit First Second x y (wordsIn a) (wordsIn b) (or-left (over x) (over y) h) (or-right (over x) (over y) h)))));
+      fits-here _ 2 _ (λ _. omega arith) (λ _.
+      fits-here _ 4 _ (λ _. omega arith) (λ _.
+      fits-here _ 8 _ (λ _. omega arith) (λ _. pair-fit First Second x y (wordsIn a) (wordsIn b) (or-left (over x) (over y) h) (or-right (over x) (over y) h))))));
 }
 
 pub product-worded : (x y : Size) (a b : List ℕ) (n : ℕ)

@@ -5,8 +5,7 @@ use Prim.Native.Nat.{ℕ}
 use Rattle.requests.specs.declared.Size.{Size}
 use Rattle.requests.proofs.WordLaws.{words-coincide}
 use Rattle.cface.specs.Check.{checkFace}
-use Rattle.cface.specs.Sum.{sumFace}
-use Rattle.cface.specs.Difference.{differenceFace}
+use Rattle.cface.specs.Combination.{combinationFace}
 use Rattle.cface.specs.Negation.{negationFace}
 use Rattle.cface.specs.Width.{widthFace}
 use Rattle.cface.specs.Quote.{quoteFace}
@@ -17,11 +16,8 @@ use Rattle.cface.specs.Turn.{turnFace}
 pub check-one : (s : Size) (a : List ℕ) (r r′ : ℕ) → r ≡ checkFace s a → r′ ≡ checkFace s a → r ≡ r′
 check-one s a r r′ p q = p ∙ sym q
 
-pub sum-one : (x y : Size) (a b out : List ℕ) (r r′ : ℕ) (o o′ : List ℕ) → (r, o) ≡ sumFace x y a b out → (r′, o′) ≡ sumFace x y a b out → (r ≡ r′) × (o ≡ o′)
-sum-one x y a b out r r′ o o′ p q = words-coincide (sumFace x y a b out) r r′ o o′ p q
-
-pub difference-one : (x y : Size) (a b out : List ℕ) (r r′ : ℕ) (o o′ : List ℕ) → (r, o) ≡ differenceFace x y a b out → (r′, o′) ≡ differenceFace x y a b out → (r ≡ r′) × (o ≡ o′)
-difference-one x y a b out r r′ o o′ p q = words-coincide (differenceFace x y a b out) r r′ o o′ p q
+pub combination-one : (x y : Size) (d : ℕ) (a b out : List ℕ) (r r′ : ℕ) (o o′ : List ℕ) → (r, o) ≡ combinationFace x y d a b out → (r′, o′) ≡ combinationFace x y d a b out → (r ≡ r′) × (o ≡ o′)
+combination-one x y d a b out r r′ o o′ p q = words-coincide (combinationFace x y d a b out) r r′ o o′ p q
 
 pub negation-one : (s : Size) (a out : List ℕ) (r r′ : ℕ) (o o′ : List ℕ) → (r, o) ≡ negationFace s a out → (r′, o′) ≡ negationFace s a out → (r ≡ r′) × (o ≡ o′)
 negation-one s a out r r′ o o′ p q = words-coincide (negationFace s a out) r r′ o o′ p q

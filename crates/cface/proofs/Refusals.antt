@@ -17,15 +17,13 @@ use Rattle.steps.specs.Count.{quote}
 use Rattle.matrix.specs.Job.{meant}
 use Rattle.matrix.specs.Opening.{openedOf}
 use Rattle.matrix.specs.Turn.{cellTests, lateTests, turnedOf}
-use Rattle.matrix.specs.Sum.{sumOf}
-use Rattle.matrix.specs.Difference.{differenceOf}
+use Rattle.matrix.specs.Combination.{combinationOf}
 use Rattle.matrix.specs.Negation.{negationOf}
 use Rattle.matrix.specs.Record.{jobIn}
 use Rattle.wordbytes.specs.Bytes.{wordsIn, bytesOf}
 use Rattle.cface.specs.Check.{checkSizes, checkFaceTests, checkFace}
 use Rattle.cface.specs.Pair.{pairSizes, pairFaceTests}
-use Rattle.cface.specs.Sum.{sumFace}
-use Rattle.cface.specs.Difference.{differenceFace}
+use Rattle.cface.specs.Combination.{combinationFace}
 use Rattle.cface.specs.Negation.{negationSizes, negationFaceTests, negationFace}
 use Rattle.cface.specs.Count.{countTests}
 use Rattle.cface.specs.Width.{widthFace}
@@ -38,15 +36,10 @@ pub check-exact : (s : Size) (a : List ℕ) (r : ℕ) → r ≡ checkFace s a �
 unfolding checkFace checkFaceTests checkSizes faults
 check-exact s a r says = numbered (checkFaceTests s a) r (faults-positive First s (wordsIn a)) says
 
-pub sum-exact : (x y : Size) (a b out : List ℕ) (r : ℕ) (o : List ℕ) → (r, o) ≡ sumFace x y a b out
-    → Exact (pairFaceTests x y a b (length out)) out (bytesOf (sumOf (x .rows) (x .columns) (wordsIn a) (wordsIn b))) r o
-unfolding sumFace pairFaceTests pairSizes faults
-sum-exact x y a b out r o says = exact (pairFaceTests x y a b (length out)) _ _ r o (pair-positive First Second x y (wordsIn a) (wordsIn b)) says
-
-pub difference-exact : (x y : Size) (a b out : List ℕ) (r : ℕ) (o : List ℕ) → (r, o) ≡ differenceFace x y a b out
-    → Exact (pairFaceTests x y a b (length out)) out (bytesOf (differenceOf (x .rows) (x .columns) (wordsIn a) (wordsIn b))) r o
-unfolding differenceFace pairFaceTests pairSizes faults
-difference-exact x y a b out r o says = exact (pairFaceTests x y a b (length out)) _ _ r o (pair-positive First Second x y (wordsIn a) (wordsIn b)) says
+pub combination-exact : (x y : Size) (d : ℕ) (a b out : List ℕ) (r : ℕ) (o : List ℕ) → (r, o) ≡ combinationFace x y d a b out
+    → Exact (pairFaceTests x y d a b (length out)) out (bytesOf (combinationOf d (x .rows) (x .columns) (wordsIn a) (wordsIn b))) r o
+unfolding combinationFace pairFaceTests pairSizes faults
+combination-exact x y d a b out r o says = exact (pairFaceTests x y d a b (length out)) _ _ r o (pair-positive First Second x y (wordsIn a) (wordsIn b)) says
 
 pub negation-exact : (s : Size) (a out : List ℕ) (r : ℕ) (o : List ℕ) → (r, o) ≡ negationFace s a out
     → Exact (negationFaceTests s a (length out)) out (bytesOf (negationOf (s .rows) (s .columns) (wordsIn a))) r o

@@ -1,4 +1,4 @@
-// Two matrices of the same size.
+// Two matrices of the same size, and a digit.
 ghost use mathlib.Core.Path.{_≡_};
 ghost use mathlib.Core.Bool.{false, _||_};
 ghost use Rattle.requests.specs.Answers.{word, first};
@@ -36,9 +36,9 @@ pub fn unfits(x: Size, y: Size, z: Size, l: usize, m: usize, n: usize) -> bool
     unfit(z, n)
 }
 
-// The tests of sizes and lengths; l, m and n are how many bytes A, B and the result have.
-pub fn judged(x: Size, y: Size, l: usize, m: usize, n: usize) -> Answer
-    ensures { λ r. ⌜ word r ≡ first (pairSizes x y l m n) ⌝ }
+// The tests of sizes, lengths and the digit, which is any 64-bit number; l, m and n are how many bytes A, B and the result have.
+pub fn judged(x: Size, y: Size, d: u64, l: usize, m: usize, n: usize) -> Answer
+    ensures { λ r. ⌜ word r ≡ first (pairSizes x y d l m n) ⌝ }
 {
     if either_over(x, y) {
         return Answer::Refused(Reason::TooLarge);
@@ -51,6 +51,9 @@ pub fn judged(x: Size, y: Size, l: usize, m: usize, n: usize) -> Answer
     }
     if unfits(x, y, x, l, m, n) {
         return Answer::Refused(Reason::LengthWrong);
+    }
+    if d > 2 {
+        return Answer::Refused(Reason::ScaleWrong);
     }
     Answer::Done
 }

@@ -17,12 +17,12 @@ pub fn matrices() {
     answer(b"check 5 by 0:", matrix::check::check(flat, &none[0..0]));
     answer(b"check 0 by 70:", matrix::check::check(thin, &none[0..0]));
     answer(
-        b"sum 5 by 0:",
-        matrix::sum::sum(flat, flat, &none[0..0], &more[0..0], &mut out[0..0]),
+        b"combination by 1, 5 by 0:",
+        matrix::combination::combination(flat, flat, 1, &none[0..0], &more[0..0], &mut out[0..0]),
     );
     answer(
-        b"difference 0 by 70:",
-        matrix::difference::difference(thin, thin, &none[0..0], &more[0..0], &mut out[0..0]),
+        b"combination by 2, 0 by 70:",
+        matrix::combination::combination(thin, thin, 2, &none[0..0], &more[0..0], &mut out[0..0]),
     );
     answer(
         b"negation 5 by 0:",

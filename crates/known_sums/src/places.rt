@@ -1,4 +1,4 @@
-// Refusals and their places: number, buffer (from 1), row and column (from 0), as their word has them. A refused scale has no place.
+// Refusals and their places: number, buffer (from 1), row and column (from 0), as their word has them. A refused scale or digit has no place.
 use super::show::value;
 use matrix::job::Job;
 use matrix::turn::Turned;
@@ -43,7 +43,7 @@ pub fn beyond_a_word() {
     );
 }
 
-// The last of four cells, and not the first, of the second matrix.
+// The last of four cells, and not the first, of the second matrix, which is looked at with the digit 0 too; and a digit above 2.
 pub fn of_two() {
     let s = Size {
         rows: 2,
@@ -53,8 +53,12 @@ pub fn of_two() {
     let b = [3u64, 1, 0, 3];
     let mut out = [0u64; 4];
     place(
-        b"sum, signs alone in row 1 of B:",
-        word(matrix::sum::sum(s, s, &a, &b, &mut out)),
+        b"combination by 0, signs alone in row 1 of B:",
+        word(matrix::combination::combination(s, s, 0, &a, &b, &mut out)),
+    );
+    place(
+        b"combination by 3, signs alone in row 1 of B:",
+        word(matrix::combination::combination(s, s, 3, &a, &b, &mut out)),
     );
 }
 

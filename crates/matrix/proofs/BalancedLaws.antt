@@ -7,7 +7,7 @@ use native.Mathlib.Omega.{arith}
 use lib.Dec.{eqb}
 use borrow.Author.Tests.{eqb-true, eq-eqb}
 use Rattle.cells.specs.Counts.{sum}
-use Rattle.cells.specs.Digit.{add3, sub3, neg3}
+use Rattle.cells.specs.Digit.{combine, neg3}
 use Rattle.cells.proofs.CountLaws.{is-where}
 use Rattle.cells.proofs.PairLaws.{by-digit}
 use Rattle.cells.proofs.SumLaws.{sum-ext}
@@ -17,9 +17,9 @@ use Rattle.buffers.proofs.BufferLaws.{cell-encode}
 use Rattle.rows.specs.Tally.{columnsWith}
 use Rattle.rows.proofs.TallyLaws.{columns-same, columns-all}
 use Rattle.matrix.specs.Negation.{negationOf}
-use Rattle.matrix.specs.Sum.{sumOf}
+use Rattle.matrix.specs.Combination.{combinationOf}
 use Rattle.matrix.specs.Tally.{balanced}
-use Rattle.matrix.proofs.FieldLaws.{neg-lt, sum-at}
+use Rattle.matrix.proofs.FieldLaws.{neg-lt, combination-at}
 
 same-truth : (p q : Bool) → (p ≡ true → q ≡ true) → (q ≡ true → p ≡ true) → p ≡ q
 same-truth true q f g = sym (f refl)
@@ -107,14 +107,14 @@ negation-keeps-balance c a =
     balanced-same _ (λ j. neg3 (cell c a 0 j)) c (λ j l. cell-encode 1 c (λ i j. neg3 (cell c a i j)) 0 j (omega arith) l (neg-lt _))
     ∙ balanced-exchanged neg3 neg3 negates (cell c a 0) c (λ j _. cell-lt c a 0 j)
 
-adds-one : Exchange (λ d. add3 d 1) (λ d. sub3 d 1)
-unfolding add3 sub3
+adds-one : Exchange (λ a. combine 1 a 1) (λ a. combine 2 a 1)
+unfolding combine
 adds-one = record { there = λ d l. (omega arith, omega arith); back = λ d l. (omega arith, omega arith) }
 
 -- 1 added to every cell turns all three levels
-pub sum-keeps-balance : (c : ℕ) (a : List ℕ) → balanced (cell c (sumOf 1 c a (encode 1 c (λ i j. 1))) 0) c ≡ balanced (cell c a 0) c
-sum-keeps-balance c a =
+pub combination-keeps-balance : (c : ℕ) (a : List ℕ) → balanced (cell c (combinationOf 1 1 c a (encode 1 c (λ i j. 1))) 0) c ≡ balanced (cell c a 0) c
+combination-keeps-balance c a =
     let ones = encode 1 c (λ i j. 1) in
-    balanced-same _ (λ j. add3 (cell c a 0 j) 1) c
-    (λ j l. sum-at 1 c a ones 0 j (omega arith) l ∙ ap (add3 (cell c a 0 j)) (cell-encode 1 c (λ i j. 1) 0 j (omega arith) l (omega arith)))
-    ∙ balanced-exchanged (λ d. add3 d 1) (λ d. sub3 d 1) adds-one (cell c a 0) c (λ j _. cell-lt c a 0 j)
+    balanced-same _ (λ j. combine 1 (cell c a 0 j) 1) c
+    (λ j l. combination-at 1 c 1 a ones 0 j (omega arith) l ∙ ap (combine 1 (cell c a 0 j)) (cell-encode 1 c (λ i j. 1) 0 j (omega arith) l (omega arith)))
+    ∙ balanced-exchanged (λ a. combine 1 a 1) (λ a. combine 2 a 1) adds-one (cell c a 0) c (λ j _. cell-lt c a 0 j)

@@ -16,8 +16,7 @@ use Rattle.matrix.specs.declared.tally.Tallied.{Tallied}
 use Rattle.matrix.specs.Check.{checkTests, checkMeans}
 use Rattle.matrix.specs.Pack.{packOf, packTests, packMeans}
 use Rattle.matrix.specs.Unpack.{unpackOf, unpackTests, unpackMeans}
-use Rattle.matrix.specs.Sum.{sumOf, sumMeans}
-use Rattle.matrix.specs.Difference.{differenceOf, differenceMeans}
+use Rattle.matrix.specs.Combination.{combinationOf, combinationMeans}
 use Rattle.matrix.specs.Negation.{negationOf, negationMeans}
 use Rattle.matrix.specs.Scaling.{scalingOf, scalingTests, scalingMeans}
 use Rattle.matrix.specs.Transpose.{transposedSize, transposeOf, transposeMeans}
@@ -45,13 +44,10 @@ pub check-exact : (s : Size) (a : List ℕ) (r : Answer) → word r ≡ checkMea
 unfolding checkMeans checkTests faults
 check-exact s a r says = numbered (checkTests s a) (word r) (faults-positive First s a) says
 
-pub sum-exact : (x y : Size) (a b out : List ℕ) (r : Answer) (o : List ℕ) → (word r, o) ≡ sumMeans x y a b out → Exact (pairTests x y a b (length out)) out (sumOf (x .rows) (x .columns) a b) (word r) o
-unfolding sumMeans pairTests faults
-sum-exact x y a b out r o says = exact (pairTests x y a b (length out)) out (sumOf (x .rows) (x .columns) a b) (word r) o (pair-positive First Second x y a b) says
-
-pub difference-exact : (x y : Size) (a b out : List ℕ) (r : Answer) (o : List ℕ) → (word r, o) ≡ differenceMeans x y a b out → Exact (pairTests x y a b (length out)) out (differenceOf (x .rows) (x .columns) a b) (word r) o
-unfolding differenceMeans pairTests faults
-difference-exact x y a b out r o says = exact (pairTests x y a b (length out)) out (differenceOf (x .rows) (x .columns) a b) (word r) o (pair-positive First Second x y a b) says
+pub combination-exact : (x y : Size) (d : ℕ) (a b out : List ℕ) (r : Answer) (o : List ℕ) → (word r, o) ≡ combinationMeans x y d a b out
+    → Exact (pairTests x y d a b (length out)) out (combinationOf d (x .rows) (x .columns) a b) (word r) o
+unfolding combinationMeans pairTests faults
+combination-exact x y d a b out r o says = exact (pairTests x y d a b (length out)) out (combinationOf d (x .rows) (x .columns) a b) (word r) o (pair-positive First Second x y a b) says
 
 pub negation-exact : (s : Size) (a out : List ℕ) (r : Answer) (o : List ℕ) → (word r, o) ≡ negationMeans s a out → Exact (singleTests s s a (length out)) out (negationOf (s .rows) (s .columns) a) (word r) o
 unfolding negationMeans singleTests faults

@@ -5,7 +5,7 @@ use mathlib.Core.List.{List}
 use Prim.Native.Nat.{ℕ, _+_, _*_, _%_, _^_}
 use native.Mathlib.Omega.{arith}
 use lib.ListN.{length, getD}
-use Rattle.cells.specs.Digit.{add3, sub3, neg3, mul3}
+use Rattle.cells.specs.Digit.{combine, neg3, mul3}
 use Rattle.buffers.specs.Buffer.{cell}
 use Rattle.buffers.specs.Shows.{Shows}
 use Rattle.buffers.proofs.SizeLaws.{cell-lt}
@@ -16,8 +16,7 @@ use Rattle.requests.specs.Answers.{word}
 use Rattle.matrix.specs.Unpacked.{byteAt, Unpacks}
 use Rattle.matrix.specs.Pack.{packOf, packMeans}
 use Rattle.matrix.specs.Unpack.{unpackOf, unpackMeans}
-use Rattle.matrix.specs.Sum.{sumOf, sumMeans}
-use Rattle.matrix.specs.Difference.{differenceOf, differenceMeans}
+use Rattle.matrix.specs.Combination.{combinationOf, combinationMeans}
 use Rattle.matrix.specs.Negation.{negationOf, negationMeans}
 use Rattle.matrix.specs.Scaling.{scalingOf, scalingMeans}
 use Rattle.matrix.specs.Transpose.{transposeOf, transposeMeans}
@@ -34,25 +33,20 @@ use Rattle.matrix.specs.Job.{meant}
 use Rattle.matrix.specs.Opening.{opened, openingMeans}
 use Rattle.matrix.specs.Turn.{turned, leftOf, turnedOf, turnMeans}
 use Rattle.matrix.specs.Product.{endOf, productMeans}
-use Rattle.matrix.proofs.FieldLaws.{add-lt, sub-lt, neg-lt, mul-lt}
+use Rattle.matrix.proofs.FieldLaws.{combine-lt, neg-lt, mul-lt}
 use Rattle.matrix.proofs.PackLaws.{ready}
 use Rattle.matrix.proofs.UnpackLaws.{bytes-length, byte-of}
-use Rattle.matrix.proofs.Demand1.{sum-exact, difference-exact, negation-exact, scaling-exact, transpose-exact, pack-exact, unpack-exact, opening-exact, turn-exact, product-exact}
+use Rattle.matrix.proofs.Demand1.{combination-exact, negation-exact, scaling-exact, transpose-exact, pack-exact, unpack-exact, opening-exact, turn-exact, product-exact}
 use Rattle.matrix.proofs.Demand3.{product-end}
 use Rattle.requests.proofs.AnswerLaws.{none-first}
 
-module _ (x y : Size) (a b out : List ℕ) (r : Answer) (o : List ℕ) where
-  abbrev c : ℕ
-  c = x .columns
-
-  pub sum-right : (word r, o) ≡ sumMeans x y a b out → word r ≡ 0 → Shows (x .rows) c (λ i j. (cell c a i j + cell c b i j) % 3) o
-  unfolding sumOf add3
-  sum-right says z = rw (sum-exact x y a b out r o says .right z) (encode-shows (x .rows) c (λ i j. add3 (cell c a i j) (cell c b i j)) (λ i j h l. add-lt (cell c a i j) (cell c b i j)))
-
-  -- 2 is -1
-  pub difference-right : (word r, o) ≡ differenceMeans x y a b out → word r ≡ 0 → Shows (x .rows) c (λ i j. (cell c a i j + 2 * cell c b i j) % 3) o
-  unfolding differenceOf sub3
-  difference-right says z = rw (difference-exact x y a b out r o says .right z) (encode-shows (x .rows) c (λ i j. sub3 (cell c a i j) (cell c b i j)) (λ i j h l. sub-lt (cell c a i j) (cell c b i j)))
+-- X plus d times Y
+pub combination-right : (x y : Size) (d : ℕ) (a b out : List ℕ) (r : Answer) (o : List ℕ) → (word r, o) ≡ combinationMeans x y d a b out → word r ≡ 0
+    → Shows (x .rows) (x .columns) (λ i j. (cell (x .columns) a i j + d * cell (x .columns) b i j) % 3) o
+unfolding combinationOf combine
+combination-right x y d a b out r o says z =
+    let c = x .columns in
+    rw (combination-exact x y d a b out r o says .right z) (encode-shows (x .rows) c (λ i j. combine d (cell c a i j) (cell c b i j)) (λ i j h l. combine-lt d (cell c a i j) (cell c b i j)))
 
 module _ (s : Size) (a out : List ℕ) (r : Answer) (o : List ℕ) where
   abbrev w : ℕ

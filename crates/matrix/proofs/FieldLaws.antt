@@ -1,29 +1,25 @@
--- The laws that make sum, difference, negation, scaling and transpose those of matrices over the field of three elements. They hold for
+-- The laws that make combination, negation, scaling and transpose those of matrices over the field of three elements. They hold for
 -- all sizes, and are stated of the buffers that the requests leave. Assumes nothing.
 use mathlib.Core.Path.{_≡_, sym, ap, ap₂, _∙_}
 use mathlib.Core.List.{List}
 use Prim.Native.Nat.{ℕ, _+_, _*_, _/_, _%_, _<_}
-use native.Mathlib.Nat.{mul-comm, mul-assoc, add-mul, div-add-mod', add-mul-mod-self-right}
+use native.Mathlib.Nat.{mul-zero, one-mul, mul-comm, mul-assoc, mul-add, add-mul, div-add-mod', add-mul-mod-self-right}
 use native.Mathlib.Omega.{arith}
-use Rattle.cells.specs.Digit.{Matrix, add3, sub3, neg3, mul3}
+use Rattle.cells.specs.Digit.{Matrix, combine, neg3, mul3}
+use Rattle.cells.proofs.ScalingLaws.{combine-scaled}
 use Rattle.buffers.specs.Buffer.{cell, Legal, Words, encode}
 use Rattle.buffers.proofs.SizeLaws.{cell-lt}
 use Rattle.buffers.proofs.BufferLaws.{cell-encode, encode-cell, encode-within}
-use Rattle.matrix.specs.Sum.{sumOf}
-use Rattle.matrix.specs.Difference.{differenceOf}
+use Rattle.matrix.specs.Combination.{combinationOf}
 use Rattle.matrix.specs.Negation.{negationOf}
 use Rattle.matrix.specs.Scaling.{scalingOf}
 use Rattle.matrix.specs.Transpose.{transposeOf}
 
 -- ---- digits
 
-pub add-lt : (a b : ℕ) → add3 a b < 3
-unfolding add3
-add-lt a b = omega arith
-
-pub sub-lt : (a b : ℕ) → sub3 a b < 3
-unfolding sub3
-sub-lt a b = omega arith
+pub combine-lt : (d a b : ℕ) → combine d a b < 3
+unfolding combine
+combine-lt d a b = omega arith
 
 pub neg-lt : (a : ℕ) → neg3 a < 3
 unfolding neg3
@@ -33,32 +29,25 @@ pub mul-lt : (a b : ℕ) → mul3 a b < 3
 unfolding mul3
 mul-lt a b = omega arith
 
-add-comm : (a b : ℕ) → add3 a b ≡ add3 b a
-unfolding add3
-add-comm a b = omega arith
+combine-comm : (a b : ℕ) → combine 1 a b ≡ combine 1 b a
+unfolding combine
+combine-comm a b = omega arith
 
-add-assoc : (a b c : ℕ) → add3 (add3 a b) c ≡ add3 a (add3 b c)
-unfolding add3
-add-assoc a b c = omega arith
+combine-assoc : (a b c : ℕ) → combine 1 (combine 1 a b) c ≡ combine 1 a (combine 1 b c)
+unfolding combine
+combine-assoc a b c = omega arith
 
-add-zero : (a : ℕ) → a < 3 → add3 a 0 ≡ a
-unfolding add3
-add-zero a h = omega arith
+combine-zero : (d a : ℕ) → a < 3 → combine d a 0 ≡ a
+unfolding combine
+combine-zero d a h = rw mul-zero (omega arith)
 
-sub-add : (a b : ℕ) → a < 3 → sub3 (add3 a b) b ≡ a
-unfolding sub3 add3
-sub-add a b h = omega arith
+combine-none : (a b : ℕ) → a < 3 → combine 0 a b ≡ a
+unfolding combine
+combine-none a b h = omega arith
 
 neg-twice : (a : ℕ) → neg3 a ≡ mul3 a 2
 unfolding neg3 mul3
 neg-twice a = ap (λ (n : ℕ). n % 3) (mul-comm 2 a)
-
-neg-sub : (a : ℕ) → neg3 a ≡ sub3 0 a
-unfolding neg3 sub3
-neg-sub a = omega arith
-
-sums-mod : (p q : ℕ) → (p + q) % 3 ≡ (p % 3 + q % 3) % 3
-sums-mod p q = omega arith
 
 -- a factor's remainder is enough
 factor-mod : (s d : ℕ) → s % 3 * d % 3 ≡ s * d % 3
@@ -69,9 +58,32 @@ factor-mod s d =
     turned : s / 3 * 3 * d ≡ s / 3 * d * 3
     turned = mul-assoc (s / 3) 3 d ∙ ap (λ (n : ℕ). s / 3 * n) (mul-comm 3 d) ∙ sym (mul-assoc (s / 3) d 3)
 
-scaled : (d a b : ℕ) → mul3 (add3 a b) d ≡ add3 (mul3 a d) (mul3 b d)
-unfolding mul3 add3
-scaled d a b = factor-mod (a + b) d ∙ ap (λ (n : ℕ). n % 3) (add-mul a b d) ∙ sums-mod (a * d) (b * d)
+from-zero : (d a : ℕ) → combine d 0 a ≡ mul3 a d
+unfolding combine mul3
+from-zero d a = rw (mul-comm d a) (omega arith)
+
+-- a remainder is enough, of the digit and of what it is combined with
+digit-mod : (n a b : ℕ) → combine (n % 3) a b ≡ combine n a b
+unfolding combine
+digit-mod n a b = let e = factor-mod n b in omega arith
+
+second-mod : (d a n : ℕ) → combine d a (n % 3) ≡ combine d a n
+unfolding combine
+second-mod d a n = let e = ap (λ (m : ℕ). m % 3) (mul-comm d (n % 3)) ∙ factor-mod n d ∙ ap (λ (m : ℕ). m % 3) (mul-comm n d) in omega arith
+
+combine-more : (d e a b : ℕ) → combine e (combine d a b) b ≡ combine ((d + e) % 3) a b
+unfolding combine
+combine-more d e a b = let f = add-mul d e b in joined (d * b) (e * b) ∙ ap (λ (n : ℕ). (a + n) % 3) (sym f) ∙ sym (digit-mod (d + e) a b)
+  where
+    joined : (p q : ℕ) → ((a + p) % 3 + q) % 3 ≡ (a + (p + q)) % 3
+    joined p q = omega arith
+
+combine-splits : (d a b c : ℕ) → combine d a (combine 1 b c) ≡ combine d (combine d a b) c
+unfolding combine
+combine-splits d a b c = second-mod d a (b + 1 * c) ∙ go (d * b) (d * c) (d * (b + 1 * c)) (mul-add d b (1 * c) ∙ ap (λ (n : ℕ). d * b + d * n) (one-mul c))
+  where
+    go : (p q n : ℕ) → n ≡ p + q → (a + n) % 3 ≡ ((a + p) % 3 + q) % 3
+    go p q n e = omega arith
 
 -- ---- buffers
 
@@ -83,9 +95,9 @@ module _ (r c : ℕ) where
   at : (M : Matrix) → ((i j : ℕ) → M i j < 3) → (i j : ℕ) → i < r → j < c → cell c (encode r c M) i j ≡ M i j
   at M small i j h l = cell-encode r c M i j h l (small i j)
 
-  pub sum-at : (a b : List ℕ) (i j : ℕ) → i < r → j < c → cell c (sumOf r c a b) i j ≡ add3 (cell c a i j) (cell c b i j)
-  unfolding sumOf
-  sum-at a b = at (λ i j. add3 (cell c a i j) (cell c b i j)) (λ i j. add-lt _ _)
+  pub combination-at : (d : ℕ) (a b : List ℕ) (i j : ℕ) → i < r → j < c → cell c (combinationOf d r c a b) i j ≡ combine d (cell c a i j) (cell c b i j)
+  unfolding combinationOf
+  combination-at d a b = at (λ i j. combine d (cell c a i j) (cell c b i j)) (λ i j. combine-lt d _ _)
 
   scaling-at : (d : ℕ) (a : List ℕ) (i j : ℕ) → i < r → j < c → cell c (scalingOf d r c a) i j ≡ mul3 (cell c a i j) d
   unfolding scalingOf
@@ -94,44 +106,71 @@ module _ (r c : ℕ) where
   zero-at : (i j : ℕ) → i < r → j < c → cell c (zeroOf r c) i j ≡ 0
   zero-at = at (λ i j. 0) (λ i j. omega arith)
 
-  pub sum-commutes : (a b : List ℕ) → sumOf r c a b ≡ sumOf r c b a
-  unfolding sumOf
-  sum-commutes a b = encode-within r c _ _ (λ i j h l. add-comm (cell c a i j) (cell c b i j))
+  pub combination-commutes : (a b : List ℕ) → combinationOf 1 r c a b ≡ combinationOf 1 r c b a
+  unfolding combinationOf
+  combination-commutes a b = encode-within r c _ _ (λ i j h l. combine-comm (cell c a i j) (cell c b i j))
 
-  pub sum-associates : (a b d : List ℕ) → sumOf r c (sumOf r c a b) d ≡ sumOf r c a (sumOf r c b d)
-  unfolding sumOf
-  sum-associates a b d =
+  pub combination-associates : (a b d : List ℕ) → combinationOf 1 r c (combinationOf 1 r c a b) d ≡ combinationOf 1 r c a (combinationOf 1 r c b d)
+  unfolding combinationOf
+  combination-associates a b d =
       encode-within r c _ _
       (λ i j h l.
-      ap (λ (n : ℕ). add3 n (cell c d i j)) (sum-at a b i j h l) ∙ add-assoc (cell c a i j) (cell c b i j) (cell c d i j)
-      ∙ ap (λ (n : ℕ). add3 (cell c a i j) n) (sym (sum-at b d i j h l)))
+      ap (λ (n : ℕ). combine 1 n (cell c d i j)) (combination-at 1 a b i j h l) ∙ combine-assoc (cell c a i j) (cell c b i j) (cell c d i j)
+      ∙ ap (combine 1 (cell c a i j)) (sym (combination-at 1 b d i j h l)))
 
-  pub sum-zero : (a : List ℕ) → Legal r c a → Words a → sumOf r c a (zeroOf r c) ≡ a
-  unfolding sumOf
-  sum-zero a L fits =
-      encode-within r c _ (cell c a) (λ i j h l. ap (λ (n : ℕ). add3 (cell c a i j) n) (zero-at i j h l) ∙ add-zero (cell c a i j) (cell-lt c a i j)) ∙ encode-cell r c a L fits
+  pub combination-zero : (d : ℕ) (a : List ℕ) → Legal r c a → Words a → combinationOf d r c a (zeroOf r c) ≡ a
+  unfolding combinationOf
+  combination-zero d a L fits =
+      encode-within r c _ (cell c a) (λ i j h l. ap (combine d (cell c a i j)) (zero-at i j h l) ∙ combine-zero d (cell c a i j) (cell-lt c a i j)) ∙ encode-cell r c a L fits
 
-  pub difference-undoes-sum : (a b : List ℕ) → Legal r c a → Words a → differenceOf r c (sumOf r c a b) b ≡ a
-  unfolding differenceOf
-  difference-undoes-sum a b L fits =
-      encode-within r c _ (cell c a)
-      (λ i j h l. ap (λ (n : ℕ). sub3 n (cell c b i j)) (sum-at a b i j h l) ∙ sub-add (cell c a i j) (cell c b i j) (cell-lt c a i j)) ∙ encode-cell r c a L fits
+  -- by 0 it is the first matrix
+  pub combination-none : (a b : List ℕ) → Legal r c a → Words a → combinationOf 0 r c a b ≡ a
+  unfolding combinationOf
+  combination-none a b L fits = encode-within r c _ (cell c a) (λ i j h l. combine-none (cell c a i j) (cell c b i j) (cell-lt c a i j)) ∙ encode-cell r c a L fits
+
+  -- by d and then by e it is by d + e
+  pub combination-adds : (d e : ℕ) (a b : List ℕ) → combinationOf e r c (combinationOf d r c a b) b ≡ combinationOf ((d + e) % 3) r c a b
+  unfolding combinationOf
+  combination-adds d e a b =
+      encode-within r c _ _
+      (λ i j h l. ap (λ (n : ℕ). combine e n (cell c b i j)) (combination-at d a b i j h l) ∙ combine-more d e (cell c a i j) (cell c b i j))
+
+  -- so by 2 it undoes what it did by 1
+  pub combination-undone : (a b : List ℕ) → Legal r c a → Words a → combinationOf 2 r c (combinationOf 1 r c a b) b ≡ a
+  combination-undone a b L fits = combination-adds 1 2 a b ∙ combination-none a b L fits
+
+  -- with zeros it is scaling
+  pub combination-scales : (d : ℕ) (a : List ℕ) → combinationOf d r c (zeroOf r c) a ≡ scalingOf d r c a
+  unfolding combinationOf scalingOf
+  combination-scales d a = encode-within r c _ _ (λ i j h l. ap (λ (n : ℕ). combine d n (cell c a i j)) (zero-at i j h l) ∙ from-zero d (cell c a i j))
+
+  -- it is the sum with the second scaled
+  pub combination-of-scaled : (d : ℕ) (a b : List ℕ) → combinationOf d r c a b ≡ combinationOf 1 r c a (scalingOf d r c b)
+  unfolding combinationOf
+  combination-of-scaled d a b =
+      encode-within r c _ _ (λ i j h l. sym (combine-scaled d (cell c a i j) (cell c b i j)) ∙ ap (combine 1 (cell c a i j)) (sym (scaling-at d b i j h l)))
+
+  -- over a sum it splits
+  pub combination-splits : (d : ℕ) (a b e : List ℕ) → combinationOf d r c a (combinationOf 1 r c b e) ≡ combinationOf d r c (combinationOf d r c a b) e
+  unfolding combinationOf
+  combination-splits d a b e =
+      encode-within r c _ _
+      (λ i j h l.
+      ap (combine d (cell c a i j)) (combination-at 1 b e i j h l) ∙ combine-splits d (cell c a i j) (cell c b i j) (cell c e i j)
+      ∙ ap (λ (n : ℕ). combine d n (cell c e i j)) (sym (combination-at d a b i j h l)))
 
   pub negation-scales : (a : List ℕ) → negationOf r c a ≡ scalingOf 2 r c a
   unfolding negationOf scalingOf
   negation-scales a = encode-within r c _ _ (λ i j h l. neg-twice (cell c a i j))
 
-  pub negation-from-zero : (a : List ℕ) → negationOf r c a ≡ differenceOf r c (zeroOf r c) a
-  unfolding negationOf differenceOf
-  negation-from-zero a = encode-within r c _ _ (λ i j h l. neg-sub (cell c a i j) ∙ ap (λ (n : ℕ). sub3 n (cell c a i j)) (sym (zero-at i j h l)))
+  pub negation-from-zero : (a : List ℕ) → negationOf r c a ≡ combinationOf 2 r c (zeroOf r c) a
+  negation-from-zero a = negation-scales a ∙ sym (combination-scales 2 a)
 
-  pub scaling-distributes : (d : ℕ) (a b : List ℕ) → scalingOf d r c (sumOf r c a b) ≡ sumOf r c (scalingOf d r c a) (scalingOf d r c b)
-  unfolding scalingOf sumOf
+  pub scaling-distributes : (d : ℕ) (a b : List ℕ) → scalingOf d r c (combinationOf 1 r c a b) ≡ combinationOf 1 r c (scalingOf d r c a) (scalingOf d r c b)
   scaling-distributes d a b =
-      encode-within r c _ _
-      (λ i j h l.
-      ap (λ (n : ℕ). mul3 n d) (sum-at a b i j h l) ∙ scaled d (cell c a i j) (cell c b i j)
-      ∙ sym (ap₂ add3 (scaling-at d a i j h l) (scaling-at d b i j h l)))
+      sym (combination-scales d (combinationOf 1 r c a b)) ∙ combination-splits d (zeroOf r c) a b
+      ∙ ap (λ (s : List ℕ). combinationOf d r c s b) (combination-scales d a)
+      ∙ combination-of-scaled d (scalingOf d r c a) b
 
 transpose-at : (r c : ℕ) (a : List ℕ) (i j : ℕ) → i < c → j < r → cell r (transposeOf r c a) i j ≡ cell c a j i
 unfolding transposeOf
@@ -141,7 +180,7 @@ pub transpose-twice : (r c : ℕ) (a : List ℕ) → Legal r c a → Words a →
 unfolding transposeOf
 transpose-twice r c a L fits = encode-within r c _ (cell c a) (λ i j h l. transpose-at r c a j i l h) ∙ encode-cell r c a L fits
 
-pub transpose-of-sum : (r c : ℕ) (a b : List ℕ) → transposeOf r c (sumOf r c a b) ≡ sumOf c r (transposeOf r c a) (transposeOf r c b)
-unfolding transposeOf sumOf
-transpose-of-sum r c a b =
-    encode-within c r _ _ (λ i j h l. sum-at r c a b j i l h ∙ sym (ap₂ add3 (transpose-at r c a i j h l) (transpose-at r c b i j h l)))
+pub transpose-of-combination : (d r c : ℕ) (a b : List ℕ) → transposeOf r c (combinationOf d r c a b) ≡ combinationOf d c r (transposeOf r c a) (transposeOf r c b)
+unfolding transposeOf combinationOf
+transpose-of-combination d r c a b =
+    encode-within c r _ _ (λ i j h l. combination-at r c d a b j i l h ∙ sym (ap₂ (combine d) (transpose-at r c a i j h l) (transpose-at r c b i j h l)))

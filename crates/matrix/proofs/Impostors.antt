@@ -1,16 +1,17 @@
 -- Shown out by demand 2: an implementation that refuses everything, and one with a fixed answer. A table of sums of one cell, computed from
 -- the requests' own statements, says that each request has two inputs that are done and leave different things, though all but one matrix is
--- the same in both. Besides, a tally that calls a row balanced by its ones and twos alone. Assumes nothing.
+-- the same in both. Besides, a tally that calls a row balanced by its ones and twos alone, and a combination that does not look at the second
+-- matrix with the digit 0, or takes 2 for 1. Assumes nothing.
 use mathlib.Core.Path.{_≡_, refl, sym, ap, _∙_}
 use mathlib.Core.Bool.{Bool, true, false, true≢false}
 use mathlib.Core.List.{List, [], _∷_}
-use Prim.Native.Nat.{ℕ, _+_, _^_}
+use Prim.Native.Nat.{ℕ, _+_, _*_, _^_}
 use native.Mathlib.Omega.{arith}
 use lib.ListN.{getD}
 use Rattle.cells.specs.Any.{any, least}
 use Rattle.cells.specs.Bit.{bit, wordOf}
 use Rattle.cells.specs.Counts.{sum, is}
-use Rattle.cells.specs.Digit.{add3, sub3, neg3, mul3, unitOf, signOf}
+use Rattle.cells.specs.Digit.{combine, neg3, mul3, unitOf, signOf}
 use Rattle.buffers.specs.Buffer.{planes, wide, words, bitAt, unit, sign, cell, tab, joined, plane, encode}
 use Rattle.buffers.specs.Fault.{stray, padded, strayAt, paddedAt}
 use Rattle.requests.specs.declared.Size.{Size}
@@ -24,8 +25,7 @@ use Rattle.matrix.specs.Unpacked.{byteAt, bytes, unlike}
 use Rattle.matrix.specs.Check.{checkTests, checkMeans}
 use Rattle.matrix.specs.Pack.{packOf, packTests, packMeans}
 use Rattle.matrix.specs.Unpack.{unpackOf, unpackTests, unpackMeans}
-use Rattle.matrix.specs.Sum.{sumOf, sumMeans}
-use Rattle.matrix.specs.Difference.{differenceOf, differenceMeans}
+use Rattle.matrix.specs.Combination.{combinationOf, combinationMeans}
 use Rattle.matrix.specs.Negation.{negationOf, negationMeans}
 use Rattle.matrix.specs.Scaling.{scalingOf, scalingTests, scalingMeans}
 use Rattle.matrix.specs.Transpose.{transposeOf, transposeMeans}
@@ -61,8 +61,9 @@ highs2 = 3 ∷ 2 ∷ []
 
 pub record Sums : Type 0 where
   pub checked : (checkMeans one one1 ≡ 0) × (checkMeans one stray1 ≡ 5 + 2 ^ 8) × (checkMeans one padded1 ≡ 6 + 2 ^ 8 + 2 ^ 32)
-  pub added : (sumMeans one one one1 one1 zero1 ≡ (0, two1)) × (sumMeans one one one1 two1 zero1 ≡ (0, zero1)) × (sumMeans one one two1 two1 zero1 ≡ (0, one1))
-  pub subtracted : (differenceMeans one one zero1 one1 zero1 ≡ (0, two1)) × (differenceMeans one one two1 one1 zero1 ≡ (0, one1))
+  pub added : (combinationMeans one one 1 one1 one1 zero1 ≡ (0, two1)) × (combinationMeans one one 1 one1 two1 zero1 ≡ (0, zero1)) × (combinationMeans one one 1 two1 two1 zero1 ≡ (0, one1))
+  pub subtracted : (combinationMeans one one 2 zero1 one1 zero1 ≡ (0, two1)) × (combinationMeans one one 2 two1 one1 zero1 ≡ (0, one1)) × (combinationMeans one one 2 one1 one1 zero1 ≡ (0, zero1))
+  pub kept : (combinationMeans one one 0 two1 one1 zero1 ≡ (0, two1)) × (combinationMeans one one 0 two1 stray1 zero1 ≡ (5 + 2 * 2 ^ 8, zero1)) × (combinationMeans one one 3 stray1 one1 zero1 ≡ (8, zero1))
   pub negated : (negationMeans one one1 zero1 ≡ (0, two1)) × (negationMeans one two1 zero1 ≡ (0, one1))
   pub scaled : (scalingMeans one 2 one1 zero1 ≡ (0, two1)) × (scalingMeans one 2 two1 zero1 ≡ (0, one1))
   pub transposed : (transposeMeans one two1 zero1 ≡ (0, two1)) × (transposeMeans one one1 zero1 ≡ (0, one1))
@@ -71,11 +72,12 @@ pub record Sums : Type 0 where
   pub tallied : (tallyMeans 1 one1 ≡ (0, (0 ∷ 1 ∷ 0 ∷ [], false))) × (tallyMeans 1 zero1 ≡ (0, (1 ∷ 0 ∷ 0 ∷ [], false))) × (tallyMeans 3 levels3 ≡ (0, (1 ∷ 1 ∷ 1 ∷ [], true))) × (tallyMeans 2 highs2 ≡ (0, (0 ∷ 1 ∷ 1 ∷ [], false)))
 
 pub sums : Sums
-unfolding checkMeans checkTests sumMeans sumOf differenceMeans differenceOf negationMeans negationOf scalingMeans scalingTests scalingOf transposeMeans transposeOf packMeans packTests packOf unpackMeans unpackTests unpackOf tallyMeans tallyRow balanced columnsWith answered first left pairTests singleTests over unequal unfits unfit unlike faults placed stray padded strayAt paddedAt any least unit sign cell bitAt bit planes wide words encode joined plane tab wordOf unitOf signOf add3 sub3 neg3 mul3 byteAt bytes sum is
+unfolding checkMeans checkTests combinationMeans combinationOf negationMeans negationOf scalingMeans scalingTests scalingOf transposeMeans transposeOf packMeans packTests packOf unpackMeans unpackTests unpackOf tallyMeans tallyRow balanced columnsWith answered first left pairTests singleTests over unequal unfits unfit unlike faults placed stray padded strayAt paddedAt any least unit sign cell bitAt bit planes wide words encode joined plane tab wordOf unitOf signOf combine neg3 mul3 byteAt bytes sum is
 sums = record {
   checked = (refl, refl, refl);
   added = (refl, refl, refl);
-  subtracted = (refl, refl);
+  subtracted = (refl, refl, refl);
+  kept = (refl, refl, refl);
   negated = (refl, refl);
   scaled = (refl, refl);
   transposed = (refl, refl);
@@ -97,11 +99,22 @@ two-zero e = let z : _≡_ {A = ℕ} 1 0 = ap (λ (l : List ℕ). getD l 0 0) e 
 tallies-differ : _≡_ {A = List ℕ × Bool} (0 ∷ 1 ∷ 0 ∷ [], false) (1 ∷ 0 ∷ 0 ∷ [], false) → ⊥
 tallies-differ e = let z : _≡_ {A = ℕ} 0 1 = ap (λ (v : List ℕ × Bool). getD (v .0) 0 0) e in omega arith
 
-pub sum-shown-out : ShownOut {X = Size × Size × List ℕ × List ℕ} {I = List ℕ} {S = List ℕ} word (λ x b. sumMeans (x .0) (x .1) (x .2) b (x .3))
-sum-shown-out = shown-out word _ (one, one, one1, zero1) one1 two1 two1 zero1 (sums .added .0) (sums .added .1) two-zero
+pub combination-shown-out : ShownOut {X = Size × Size × ℕ × List ℕ × List ℕ} {I = List ℕ} {S = List ℕ} word (λ x b. combinationMeans (x .0) (x .1) (x .2) (x .3) b (x .4))
+combination-shown-out = shown-out word _ (one, one, 1, one1, zero1) one1 two1 two1 zero1 (sums .added .0) (sums .added .1) two-zero
 
-pub difference-shown-out : ShownOut {X = Size × Size × List ℕ × List ℕ} {I = List ℕ} {S = List ℕ} word (λ x a. differenceMeans (x .0) (x .1) a (x .2) (x .3))
-difference-shown-out = shown-out word _ (one, one, one1, zero1) zero1 two1 two1 one1 (sums .subtracted .0) (sums .subtracted .1) two-one
+-- of what meets the statement of a combination, as a function of the digit and the two matrices alone
+module _ (f : ℕ → List ℕ → List ℕ → ℕ × List ℕ) (meets : (d : ℕ) (a b : List ℕ) → f d a b ≡ combinationMeans one one d a b zero1) where
+  -- with the digit 0 it still looks at the second matrix
+  pub not-unseen : ((a b : List ℕ) → f 0 a b .0 ≡ f 0 a one1 .0) → ⊥
+  not-unseen unseen =
+      let z : _≡_ {A = ℕ} (5 + 2 * 2 ^ 8) 0 =
+      sym (ap (λ (v : ℕ × List ℕ). v .0) (meets 0 two1 stray1 ∙ sums .kept .1)) ∙ unseen two1 stray1 ∙ ap (λ (v : ℕ × List ℕ). v .0) (meets 0 two1 one1 ∙ sums .kept .0) in
+      omega arith
+
+  -- it does not take the digit 2 for 1
+  pub not-two-as-one : ((a b : List ℕ) → f 2 a b ≡ f 1 a b) → ⊥
+  not-two-as-one alike =
+      two-zero (sym (ap (λ (v : ℕ × List ℕ). v .1) (meets 1 one1 one1 ∙ sums .added .0)) ∙ ap (λ (v : ℕ × List ℕ). v .1) (sym (alike one1 one1) ∙ meets 2 one1 one1 ∙ sums .subtracted .2))
 
 pub negation-shown-out : ShownOut {X = Size × List ℕ} {I = List ℕ} {S = List ℕ} word (λ x a. negationMeans (x .0) a (x .1))
 negation-shown-out = shown-out word _ (one, zero1) one1 two1 two1 one1 (sums .negated .0) (sums .negated .1) two-one

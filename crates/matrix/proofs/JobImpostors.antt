@@ -12,7 +12,7 @@ use lib.ListN.{getD}
 use Rattle.cells.specs.Any.{any}
 use Rattle.cells.specs.Bit.{bit, wordOf}
 use Rattle.cells.specs.Counts.{sum, is, bitsOf}
-use Rattle.cells.specs.Digit.{add3, sub3, unitOf, signOf}
+use Rattle.cells.specs.Digit.{combine, unitOf, signOf}
 use Rattle.buffers.specs.Buffer.{planes, wide, words, bitAt, unit, sign, cell, tab, joined, plane, encode}
 use Rattle.buffers.specs.Fault.{stray, padded}
 use Rattle.requests.specs.declared.Size.{Size}
@@ -97,7 +97,7 @@ pub record Sums : Type 0 where
   pub multiplied : (productMeans one one 1 one1 one1 newTable zero1 ≡ (0, (madeTable, one1))) × (productMeans one one 1 zero1 one1 newTable zero1 ≡ (0, (madeTable, zero1)))
 
 pub sums : Sums
-unfolding turnMeans turnTests foundTests turnedOf turn made openingMeans openingTests productMeans endOf totalMeans totalTests quoteMeans quoteTests widthMeans defaultWidth cheapest better quote total sum meant misfit due found steps blocks blockWidth blockSteps rowSteps tableSteps each many unless0 bitsOf lowestBit cleared put apply run opening answered first left over unfit faults stray padded any unit sign cell bitAt bit planes wide words encode joined plane tab wordOf unitOf signOf add3 sub3 is trailingZeros
+unfolding turnMeans turnTests foundTests turnedOf turn made openingMeans openingTests productMeans endOf totalMeans totalTests quoteMeans quoteTests widthMeans defaultWidth cheapest better quote total sum meant misfit due found steps blocks blockWidth blockSteps rowSteps tableSteps each many unless0 bitsOf lowestBit cleared put apply run opening answered first left over unfit faults stray padded any unit sign cell bitAt bit planes wide words encode joined plane tab wordOf unitOf signOf combine is trailingZeros
 sums = record { first-step = refl; second-step = refl; both-steps = refl; zero-cell = refl; totals = (refl, refl); quoted = (refl, refl); chosen = (refl, refl); opened-at = (refl, refl); multiplied = (refl, refl) }
 
 one-zero : one1 ≡ zero1 → ⊥

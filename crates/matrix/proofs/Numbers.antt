@@ -1,5 +1,5 @@
--- The numbers that each request gives, in their order, without their places; and its word fits in 64 bits, whatever it is handed. Sum and difference
--- have `pair-worded`, negation and transpose `single-worded` of crate requests; a tally is judged as a check of one row, a product as an opening.
+-- The numbers that each request gives, in their order, without their places; and its word fits in 64 bits, whatever it is handed. Combination
+-- has `pair-worded`, negation and transpose `single-worded` of crate requests; a tally is judged as a check of one row, a product as an opening.
 -- Assumes nothing.
 use mathlib.Core.Path.{_≡_, refl, ap, _∙_}
 use mathlib.Core.Bool.{true, false, _||_}

@@ -14,8 +14,7 @@ use Rattle.matrix.specs.declared.tally.Tallied.{Tallied}
 use Rattle.matrix.specs.Check.{checkMeans}
 use Rattle.matrix.specs.Pack.{packMeans}
 use Rattle.matrix.specs.Unpack.{unpackMeans}
-use Rattle.matrix.specs.Sum.{sumMeans}
-use Rattle.matrix.specs.Difference.{differenceMeans}
+use Rattle.matrix.specs.Combination.{combinationMeans}
 use Rattle.matrix.specs.Negation.{negationMeans}
 use Rattle.matrix.specs.Scaling.{scalingMeans}
 use Rattle.matrix.specs.Transpose.{transposeMeans}
@@ -32,11 +31,9 @@ use Rattle.requests.proofs.WordLaws.{some-reason, reason-same, word-same, coinc
 pub check-one : (s : Size) (a : List ℕ) (r r′ : Answer) → Typed r → Typed r′ → word r ≡ checkMeans s a → word r′ ≡ checkMeans s a → r ≡ r′
 check-one s a r r′ h k p q = word-same r r′ h k (p ∙ sym q)
 
-pub sum-one : (x y : Size) (a b out : List ℕ) (r r′ : Answer) (o o′ : List ℕ) → Typed r → Typed r′ → (word r, o) ≡ sumMeans x y a b out → (word r′, o′) ≡ sumMeans x y a b out → (r ≡ r′) × (o ≡ o′)
-sum-one x y a b out r r′ o o′ h k p q = coincide (sumMeans x y a b out) r r′ o o′ h k p q
-
-pub difference-one : (x y : Size) (a b out : List ℕ) (r r′ : Answer) (o o′ : List ℕ) → Typed r → Typed r′ → (word r, o) ≡ differenceMeans x y a b out → (word r′, o′) ≡ differenceMeans x y a b out → (r ≡ r′) × (o ≡ o′)
-difference-one x y a b out r r′ o o′ h k p q = coincide (differenceMeans x y a b out) r r′ o o′ h k p q
+pub combination-one : (x y : Size) (d : ℕ) (a b out : List ℕ) (r r′ : Answer) (o o′ : List ℕ) → Typed r → Typed r′ → (word r, o) ≡ combinationMeans x y d a b out
+    → (word r′, o′) ≡ combinationMeans x y d a b out → (r ≡ r′) × (o ≡ o′)
+combination-one x y d a b out r r′ o o′ h k p q = coincide (combinationMeans x y d a b out) r r′ o o′ h k p q
 
 pub negation-one : (s : Size) (a out : List ℕ) (r r′ : Answer) (o o′ : List ℕ) → Typed r → Typed r′ → (word r, o) ≡ negationMeans s a out → (word r′, o′) ≡ negationMeans s a out → (r ≡ r′) × (o ≡ o′)
 negation-one s a out r r′ o o′ h k p q = coincide (negationMeans s a out) r r′ o o′ h k p q

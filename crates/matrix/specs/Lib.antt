@@ -3,8 +3,7 @@ pub mod Gathered
 pub mod Check
 pub mod Pack
 pub mod Unpack
-pub mod Sum
-pub mod Difference
+pub mod Combination
 pub mod Negation
 pub mod Scaling
 pub mod RowBlocks

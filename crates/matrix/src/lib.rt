@@ -1,8 +1,8 @@
 // Packed matrices over the field of three elements: the requests of the library. None of them asks anything of its caller: any sizes, any
 // digit and buffers of any length get an answer, and a refusal leaves every buffer as it was.
 pub mod check;
+pub mod combination;
 mod default_width;
-pub mod difference;
 pub mod job;
 mod meant;
 mod misfit;
@@ -13,7 +13,6 @@ pub mod product;
 pub mod quote;
 mod quoted;
 pub mod scaling;
-pub mod sum;
 pub mod tally;
 pub mod total;
 pub mod transpose;

@@ -105,10 +105,12 @@ single-worded s t a n = record {
   fits = fits-here _ 1 _ (λ _. omega arith) (λ h. fits-here _ 4 _ (λ _. omega arith) (λ _. faults-fit First s a h));
 }
 
-pub pair-worded : (x y : Size) (a b : List ℕ) (n : ℕ)
-    → Worded (pairTests x y a b n) ((over x || over y, 1) ∷ (unequal x y, 2) ∷ (unfits x y (length a) (length b) n, 4) ∷ (faultNumbers x a ++ faultNumbers y b))
+pub pair-worded : (x y : Size) (d : ℕ) (a b : List ℕ) (n : ℕ)
+    → Worded (pairTests x y d a b n) ((over x || over y, 1) ∷ (unequal x y, 2) ∷ (unfits x y (length a) (length b) n, 4) ∷ (ltb 2 d, 8) ∷ (faultNumbers x a ++ faultNumbers y b))
 unfolding pairTests
-pair-worded x y a b n = record {
-  numbers-are = ap (λ (l : Tests). (over x || over y, 1) ∷ (unequal x y, 2) ∷ (unfits x y (length a) (length b) n, 4) ∷ l) (pair-numbers First Second x y a b);
-  fits = fits-here _ 1 _ (λ _. omega arith) (λ h. fits-here _ 2 _ (λ _. omega arith) (λ _. fits-here _ 4 _ (λ _. omega arith) (λ _. pair-fit First Second x y a b (or-left (over x) (over y) h) (or-right (over x) (over y) h))));
+pair-worded x y d a b n = record {
+  numbers-are = ap (λ (l : Tests). (over x || over y, 1) ∷ (unequal x y, 2) ∷ (unfits x y (length a) (length b) n, 4) ∷ (ltb 2 d, 8) ∷ l) (pair-numbers First Second x y a b);
+  fits = fits-here _ 1 _ (λ _. omega arith) (λ h.
+      fits-here _ 2 _ (λ _. omega arith) (λ _.
+      fits-here _ 4 _ (λ _. omega arith) (λ _. fits-here _ 8 _ (λ _. omega arith) (λ _. pair-fit First Second x y a b (or-left (over x) (over y) h) (or-right (over x) (over y) h)))));
 }

@@ -1,11 +1,12 @@
--- The tests of a request over two matrices. Assumes nothing.
+-- The tests of a request over two matrices and a digit. Assumes nothing.
 use mathlib.Core.Path.{_≡_}
 use mathlib.Core.Bool.{false, not, _||_}
 use mathlib.Core.List.{List}
-use Prim.Native.Nat.{ℕ, _≤_}
+use Prim.Native.Nat.{ℕ, _≤_, _<_}
+use native.Mathlib.Omega.{arith}
 use lib.Dec.{T, eqb}
 use lib.ListN.{length}
-use borrow.Author.Tests.{eqb-true, not-false}
+use borrow.Author.Tests.{eqb-true, not-false, ltb-false}
 use Rattle.cells.proofs.AnyLaws.{or-left, or-right}
 use Rattle.requests.specs.declared.Size.{Size}
 use Rattle.requests.specs.declared.Buffer.{Buffer}
@@ -51,20 +52,22 @@ module _ (x y : Size) (h : unequal x y ≡ false) where
   same-columns = eqb-true _ _ (not-false (eqb (x .columns) (y .columns)) (or-right (not (eqb (x .rows) (y .rows))) (not (eqb (x .columns) (y .columns))) h))
 
 -- what no test's holding says
-pub record Ready (x y : Size) (a b : List ℕ) (n : ℕ) : Type 0 where
+pub record Ready (x y : Size) (d : ℕ) (a b : List ℕ) (n : ℕ) : Type 0 where
   pub rows : x .rows ≤ 1024
   pub columns : x .columns ≤ 1024
   pub same : (x .rows ≡ y .rows) × (x .columns ≡ y .columns)
+  pub digit : d < 3
   pub left : Legal (x .rows) (x .columns) a
   pub right : Legal (x .rows) (x .columns) b
   pub room : n ≡ words (x .rows) (x .columns)
 
-pub ready : (x y : Size) (a b : List ℕ) (n : ℕ) → first (pairTests x y a b n) ≡ 0 → Ready x y a b n
+pub ready : (x y : Size) (d : ℕ) (a b : List ℕ) (n : ℕ) → first (pairTests x y d a b n) ≡ 0 → Ready x y d a b n
 unfolding pairTests faults
-ready x y a b n z =
-    let t : None (pairTests x y a b n) = first-none (pairTests x y a b n) (pair-positive First Second x y a b) z in
+ready x y d a b n z =
+    let t : None (pairTests x y d a b n) = first-none (pairTests x y d a b n) (pair-positive First Second x y a b) z in
     let small = or-left (over x) (over y) (t .0) in
     let f = t .1 .1 .0 in
+    let small-digit : d ≤ 2 = ltb-false 2 d (t .1 .1 .1 .0) in
     let la = unfit-long x (length a) (fits-a x y (length a) (length b) n f) in
     let lb = unfit-long y (length b) (fits-b x y (length a) (length b) n f) in
     let er = same-rows x y (t .1 .0) in
@@ -73,7 +76,8 @@ ready x y a b n z =
       rows = over-rows x small;
       columns = over-columns x small;
       same = (er, ec);
-      left = legal-tests _ _ a la (t .1 .1 .1 .0) (t .1 .1 .1 .1 .0);
-      right = rw (er, ec) (legal-tests _ _ b lb (t .1 .1 .1 .1 .1 .0) (t .1 .1 .1 .1 .1 .1 .0));
+      digit = omega arith;
+      left = legal-tests _ _ a la (t .1 .1 .1 .1 .0) (t .1 .1 .1 .1 .1 .0);
+      right = rw (er, ec) (legal-tests _ _ b lb (t .1 .1 .1 .1 .1 .1 .0) (t .1 .1 .1 .1 .1 .1 .1 .0));
       room = unfit-long x n (fits-out x y (length a) (length b) n f);
     }

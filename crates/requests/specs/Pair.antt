@@ -1,8 +1,8 @@
--- The tests of a request that makes a matrix of two of the same size. Assumes nothing.
+-- The tests of a request that makes a matrix of two of the same size and a digit. Assumes nothing.
 use mathlib.Core.Bool.{Bool, not, _||_}
 use mathlib.Core.List.{List, _∷_}
 use Prim.Native.Nat.{ℕ}
-use lib.Dec.{eqb}
+use lib.Dec.{eqb, ltb}
 use lib.ListN.{length}
 use Rattle.requests.specs.declared.Size.{Size}
 use Rattle.requests.specs.declared.Buffer.the-variants.{First, Second}
@@ -18,6 +18,6 @@ unequal x y = not (eqb (x .rows) (y .rows)) || not (eqb (x .columns) (y .columns
 unfoldable pub unfits : Size → Size → ℕ → ℕ → ℕ → Bool
 unfits x y l m n = unfit x l || (unfit y m || unfit x n)
 
--- n is how many words there are for the result
-unfoldable pub pairTests : Size → Size → List ℕ → List ℕ → ℕ → Tests
-pairTests x y a b n = (over x || over y, 1) ∷ (unequal x y, 2) ∷ (unfits x y (length a) (length b) n, 4) ∷ pairFaults First Second x y a b
+-- n is how many words there are for the result; a digit above 2 has no place
+unfoldable pub pairTests : Size → Size → ℕ → List ℕ → List ℕ → ℕ → Tests
+pairTests x y d a b n = (over x || over y, 1) ∷ (unequal x y, 2) ∷ (unfits x y (length a) (length b) n, 4) ∷ (ltb 2 d, 8) ∷ pairFaults First Second x y a b

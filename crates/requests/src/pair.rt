@@ -1,4 +1,4 @@
-// Two matrices of the same size.
+// Two matrices of the same size, and a digit.
 ghost use mathlib.Core.Path.{_≡_};
 ghost use mathlib.Core.Bool.{false, _||_};
 ghost use Rattle.requests.specs.Answers.{word, first};
@@ -34,9 +34,9 @@ fn unfits(x: Size, y: Size, l: usize, m: usize, n: usize) -> bool
     unfit(x, n)
 }
 
-// What is wrong with two matrices and n words for what is made of them.
-pub fn judged(x: Size, y: Size, a: &[u64], b: &[u64], n: usize) -> Answer
-    ensures { λ r. ⌜ word r ≡ first (pairTests x y (now (a .entry)) (now (b .entry)) n) ⌝ }
+// What is wrong with two matrices, a digit, and n words for what is made of them.
+pub fn judged(x: Size, y: Size, d: u8, a: &[u64], b: &[u64], n: usize) -> Answer
+    ensures { λ r. ⌜ word r ≡ first (pairTests x y d (now (a .entry)) (now (b .entry)) n) ⌝ }
 {
     if either_over(x, y) {
         return Answer::Refused(Reason::TooLarge);
@@ -46,6 +46,9 @@ pub fn judged(x: Size, y: Size, a: &[u64], b: &[u64], n: usize) -> Answer
     }
     if unfits(x, y, a.len(), b.len(), n) {
         return Answer::Refused(Reason::LengthWrong);
+    }
+    if d > 2 {
+        return Answer::Refused(Reason::ScaleWrong);
     }
     either_fault(Buffer::First, Buffer::Second, x, y, a, b)
 }

@@ -1,12 +1,14 @@
 -- A part of a slice, from word a to word e, that is lent to be written and comes back. Assumes nothing.
-use mathlib.Core.Path.{_≡_, ap, subst, _∙_}
+use mathlib.Core.Path.{_≡_, refl, ap, subst, _∙_}
+use mathlib.Core.Logic.{inl, inr, ⊎-elim}
 use mathlib.Core.List.{List, _++_}
-use Prim.Native.Nat.{ℕ, _+_, _-_, _≤_, _<_}
+use Prim.Native.Nat.{ℕ, _+_, _-_, _*_, _≤_, _<_}
+use native.Mathlib.Nat.{le-refl}
 use native.Mathlib.Decide.{decLt}
 use native.Mathlib.Omega.{arith}
 use lib.ListN.{length, getD, take, drop, length-append, length-drop, List·getD-append}
 use lib.Seq.{getD-append-add, getD-take, getD-drop, length-take-le}
-use Rattle.rows.specs.Row.{digitAt, LegalRow, of2, Made, Readable}
+use Rattle.rows.specs.Row.{digitAt, LegalRow, of2, Made, Readable, InPlace}
 use Rattle.rows.proofs.RowLaws.{digitAt-by, made-cong}
 
 module _ (a e : ℕ) (xs : List ℕ) (order : a ≤ e) (inside : e ≤ length xs) where
@@ -108,12 +110,39 @@ module _ (a e : ℕ) (xs : List ℕ) (order : a ≤ e) (inside : e ≤ length xs
         above k l (yes h) = inner k (omega arith) h (M .after (k - a) (omega arith))
         above k l (no h) = back-high row long k (omega arith)
 
--- a row made in the part of its row there and of another is made in the slice of its row there and of the other
-pub lent : (op : ℕ → ℕ → ℕ) (a e x o y i q : ℕ) (xs b : List ℕ) (z : ℕ) (row : List ℕ) → a ≤ e → e ≤ length xs → x ≡ a + o → x + (q + q) ≤ e → y ≡ a + i → y + (q + q) ≤ e
-    → Made (of2 op q (take (e - a) (drop a xs)) i b z) o q q (take (e - a) (drop a xs)) row
-    → Made (of2 op q xs y b z) x q q xs (take a xs ++ (row ++ drop (e - a) (drop a xs)))
-unfolding of2
-lent op a e x o y i q xs b z row order inside place room source source-room M =
-    part-made a e xs order inside x o q place room (of2 op q xs y b z) row
-    (made-cong (of2 op q (take (e - a) (drop a xs)) i b z) (of2 op q xs y b z) o q q _ _
-    (λ p t l. ap (λ (d : ℕ). op d (digitAt b z q p t)) (part-digit a e xs order inside y i q source source-room p t l)) M)
+-- ---- the part from row y to the end of row x, which is made of row y
+
+module _ {q x y z : ℕ} {t b : List ℕ} (R : InPlace q q x y z t b) (o : ℕ) (place : x ≡ y + o) where
+  starts : y + (q + q) ≤ x + 2 * q
+  starts = ⊎-elim (λ e. omega arith) (λ e. omega arith) (R .apart)
+
+  inside : x + 2 * q ≤ length t
+  inside = omega (arith, R .room)
+
+  abbrev its : List ℕ
+  its = take (x + 2 * q - y) (drop y t)
+
+  pub lent : InPlace q q o 0 z its b
+  lent = record {
+    fits = R .fits;
+    room = omega (arith, part-length y (x + 2 * q) t (omega arith) inside);
+    first = part-readable y (x + 2 * q) t (omega arith) inside y 0 q (omega arith) starts (R .first);
+    second = R .second;
+    apart = ⊎-elim (λ e. inl (omega arith)) (λ e. inr (omega arith)) (R .apart);
+  }
+
+  -- a row that is made in the part is made in the slice
+  pub returned : (op : ℕ → ℕ → ℕ) {row : List ℕ} → Made (of2 op q its 0 b z) o q q its row → Made (of2 op q t y b z) x q q t (take y t ++ (row ++ drop (x + 2 * q - y) (drop y t)))
+  unfolding of2
+  returned op {row} M =
+      part-made y (x + 2 * q) t (omega arith) inside x o q place (omega arith) (of2 op q t y b z) row
+      (made-cong (of2 op q its 0 b z) (of2 op q t y b z) o q q _ _
+      (λ p k l. ap (λ (d : ℕ). op d (digitAt b z q p k)) (part-digit y (x + 2 * q) t (omega arith) inside y 0 q (omega arith) starts p k l)) M)
+
+-- a row is made in place of itself and another
+pub own : {q x y : ℕ} {t b : List ℕ} → Readable q q x t → Readable q q y b → InPlace q q x x y t b
+own {q} R S = record { fits = le-refl q; room = R .room; first = R; second = S; apart = inl refl }
+
+-- or of a row before it and another
+pub apart : {q x y z : ℕ} {t b : List ℕ} → y + (q + q) ≤ x → x + (q + q) ≤ length t → Readable q q y t → Readable q q z b → InPlace q q x y z t b
+apart {q} h room R S = record { fits = le-refl q; room = omega arith; first = R; second = S; apart = inr h }

@@ -104,6 +104,10 @@ load-legal a x q n p i u s L h e eu es =
     let d : i + q ≡ x + q + p = omega arith in
     rw (eu, es, d, e) (L p h)
 
+-- the sign word one place on from the one at y + q is that of the pair at y + 1
+pub next-sign : (a : List ℕ) (y q w : ℕ) → w ≡ getD a (y + q + 1) 0 → w ≡ getD a (y + 1 + q) 0
+next-sign a y q w e = let p : y + q + 1 ≡ y + 1 + q = omega arith in rw p at e
+
 loaded : (a : List ℕ) (x q p i u s : ℕ) → i ≡ x + p → u ≡ getD a i 0 → s ≡ getD a (i + q) 0 → (t : ℕ) → digit u s t ≡ digitAt a x q p t
 unfolding digitAt
 loaded a x q p i u s e eu es t =
@@ -162,67 +166,64 @@ more2 op q a b x y z j m n old mid new e h = made-on _ _ x q j m n old mid new e
 
 -- ---- in place: the pairs that are still to be read are as they were
 
-module _ (q n x y z : ℕ) (t b : List ℕ) (R : InPlace q n x y z t b) (f : ℕ → ℕ → ℕ) (j : ℕ) (mid : List ℕ) (M : Made f x q j t mid) where
-  kept-unit : (p : ℕ) → j ≤ p → p < n → getD mid (y + p) 0 ≡ getD t (y + p) 0
-  kept-unit p l h =
-      let k : n ≤ q = R .fits in
-      ⊎-elim (λ e. M .between (y + p) (omega arith) (omega arith)) (λ e. M .before (y + p) (omega arith)) (R .apart)
+module _ {q n x y z : ℕ} {t b : List ℕ} (R : InPlace q n x y z t b) where
+  -- fewer pairs
+  pub fewer : (m : ℕ) → m ≤ n → InPlace q m x y z t b
+  fewer m h = record {
+    fits = omega (arith, R .fits);
+    room = omega (arith, R .room);
+    first = readable-part q n 0 m y y t (omega arith) (omega arith) (R .first);
+    second = readable-part q n 0 m z z b (omega arith) (omega arith) (R .second);
+    apart = R .apart;
+  }
 
-  kept-sign : (p : ℕ) → j ≤ p → p < n → getD mid (y + q + p) 0 ≡ getD t (y + q + p) 0
-  kept-sign p l h =
-      let k : n ≤ q = R .fits in
-      ⊎-elim (λ e. M .after (y + q + p) (omega arith)) (λ e. M .before (y + q + p) (omega arith)) (R .apart)
+  module _ {f : ℕ → ℕ → ℕ} {j : ℕ} {mid : List ℕ} (M : Made f x q j t mid) where
+    kept-unit : (p : ℕ) → j ≤ p → p < n → getD mid (y + p) 0 ≡ getD t (y + p) 0
+    kept-unit p l h =
+        let k : n ≤ q = R .fits in
+        ⊎-elim (λ e. M .between (y + p) (omega arith) (omega arith)) (λ e. M .before (y + p) (omega arith)) (R .apart)
 
-  pub later : (m : ℕ) → j + m ≤ n → InPlace q m (x + j) (y + j) (z + j) mid b
-  unfolding LegalRow
-  later m h =
+    kept-sign : (p : ℕ) → j ≤ p → p < n → getD mid (y + q + p) 0 ≡ getD t (y + q + p) 0
+    kept-sign p l h =
+        let k : n ≤ q = R .fits in
+        ⊎-elim (λ e. M .after (y + q + p) (omega arith)) (λ e. M .before (y + q + p) (omega arith)) (R .apart)
+
+    -- m pairs from pair j on, when those before are made
+    pub later : (m : ℕ) → j + m ≤ n → InPlace q m (x + j) (y + j) (z + j) mid b
+    unfolding LegalRow
+    later m h =
+        let fits : n ≤ q = R .fits in
+        let long : length mid ≡ length t = M .long in
+        let first-room : y + q + n ≤ length t = R .first .room in
+        record {
+          fits = omega arith;
+          room = omega (arith, R .room);
+          first = record { room = omega arith; legal = λ p l. row p (kept-unit (j + p) (omega arith) (omega arith)) (kept-sign (j + p) (omega arith) (omega arith)) (R .first .legal (j + p) (omega arith)) };
+          second = readable-part q n j m z (z + j) b refl h (R .second);
+          apart = ⊎-elim (λ e. inl (omega arith)) (λ e. inr (omega arith)) (R .apart);
+        }
+      where
+        row : (p : ℕ) → getD mid (y + (j + p)) 0 ≡ getD t (y + (j + p)) 0 → getD mid (y + q + (j + p)) 0 ≡ getD t (y + q + (j + p)) 0
+            → LegalPair (getD t (y + (j + p)) 0) (getD t (y + q + (j + p)) 0) → LegalPair (getD mid (y + j + p) 0) (getD mid (y + j + q + p) 0)
+        row p e g L =
+            let a : y + j + p ≡ y + (j + p) = omega arith in
+            let c : y + j + q + p ≡ y + q + (j + p) = omega arith in
+            rw (a, c, e, g) L
+
+    later-same : (op : ℕ → ℕ → ℕ) (m : ℕ) → j + m ≤ n → (p k : ℕ) → p < m → of2 op q mid (y + j) b (z + j) p k ≡ of2 op q t y b z (j + p) k
+    unfolding of2
+    later-same op m h p k l =
+        ap₂ op
+        (digitAt-later mid y q j p k ∙ digitAt-by mid t y y q (j + p) (j + p) (kept-unit (j + p) (omega arith) (omega arith)) (kept-sign (j + p) (omega arith) (omega arith)) k)
+        (digitAt-later b z q j p k)
+
+  -- m pairs more, which make k in all
+  pub next : (op : ℕ → ℕ → ℕ) {j m : ℕ} (k : ℕ) {mid new : List ℕ} → k ≡ j + m → k ≤ n
+      → Made (of2 op q t y b z) x q j t mid → Made (of2 op q mid (y + j) b (z + j)) (x + j) q m mid new → Made (of2 op q t y b z) x q k t new
+  next op {j} {m} k {mid} {new} e h M N =
       let fits : n ≤ q = R .fits in
-      let long : length mid ≡ length t = M .long in
-      let first-room : y + q + n ≤ length t = R .first .room in
-      record {
-        fits = omega arith;
-        room = omega (arith, R .room);
-        first = record { room = omega arith; legal = λ p l. row p (kept-unit (j + p) (omega arith) (omega arith)) (kept-sign (j + p) (omega arith) (omega arith)) (R .first .legal (j + p) (omega arith)) };
-        second = readable-part q n j m z (z + j) b refl h (R .second);
-        apart = ⊎-elim (λ e. inl (omega arith)) (λ e. inr (omega arith)) (R .apart);
-      }
-    where
-      row : (p : ℕ) → getD mid (y + (j + p)) 0 ≡ getD t (y + (j + p)) 0 → getD mid (y + q + (j + p)) 0 ≡ getD t (y + q + (j + p)) 0
-          → LegalPair (getD t (y + (j + p)) 0) (getD t (y + q + (j + p)) 0) → LegalPair (getD mid (y + j + p) 0) (getD mid (y + j + q + p) 0)
-      row p e g L =
-          let a : y + j + p ≡ y + (j + p) = omega arith in
-          let c : y + j + q + p ≡ y + q + (j + p) = omega arith in
-          rw (a, c, e, g) L
-
-  later-same : (op : ℕ → ℕ → ℕ) (m : ℕ) → j + m ≤ n → (p k : ℕ) → p < m → of2 op q mid (y + j) b (z + j) p k ≡ of2 op q t y b z (j + p) k
-  unfolding of2
-  later-same op m h p k l =
-      ap₂ op
-      (digitAt-later mid y q j p k ∙ digitAt-by mid t y y q (j + p) (j + p) (kept-unit (j + p) (omega arith) (omega arith)) (kept-sign (j + p) (omega arith) (omega arith)) k)
-      (digitAt-later b z q j p k)
-
--- a row that is made in place, m pairs more
-pub next : (op : ℕ → ℕ → ℕ) (q n x y z : ℕ) (t b : List ℕ) (j m : ℕ) (mid new : List ℕ) → InPlace q n x y z t b → j + m ≤ n
-    → Made (of2 op q t y b z) x q j t mid → Made (of2 op q mid (y + j) b (z + j)) (x + j) q m mid new → Made (of2 op q t y b z) x q (j + m) t new
-next op q n x y z t b j m mid new R h M N =
-    let fits : n ≤ q = R .fits in
-    made-more (of2 op q t y b z) (of2 op q mid (y + j) b (z + j)) x q j m t mid new (omega arith) (later-same q n x y z t b R (of2 op q t y b z) j mid M op m h) M N
-
--- and the rest of the row
-pub last : (op : ℕ → ℕ → ℕ) (q x y z : ℕ) (t b : List ℕ) (j : ℕ) (mid new : List ℕ) → InPlace q q x y z t b → j ≤ q
-    → Made (of2 op q t y b z) x q j t mid → Made (of2 op q mid (y + j) b (z + j)) (x + j) q (q - j) mid new → Made (of2 op q t y b z) x q q t new
-last op q x y z t b j mid new R h M N =
-    made-count (of2 op q t y b z) x q (j + (q - j)) q t new (omega arith) (next op q q x y z t b j (q - j) mid new R (omega arith) M N)
-
--- fewer pairs
-pub fewer : (q n m x y z : ℕ) (t b : List ℕ) → m ≤ n → InPlace q n x y z t b → InPlace q m x y z t b
-fewer q n m x y z t b h R = record {
-  fits = omega (arith, R .fits);
-  room = omega (arith, R .room);
-  first = readable-part q n 0 m y y t (omega arith) (omega arith) (R .first);
-  second = readable-part q n 0 m z z b (omega arith) (omega arith) (R .second);
-  apart = R .apart;
-}
+      made-count (of2 op q t y b z) x q (j + m) k t new (sym e)
+      (made-more (of2 op q t y b z) (of2 op q mid (y + j) b (z + j)) x q j m t mid new (omega arith) (later-same M op m (omega arith)) M N)
 
 -- ---- a row that was made can be read, and so can a row before it
 

@@ -2,12 +2,12 @@
 pub mod add;
 pub mod block;
 pub mod clear;
-pub mod difference;
+pub mod combination;
 pub mod fault;
+mod in_place;
 pub mod negation;
 pub mod scaling;
 pub mod subtract;
-pub mod sum;
 pub mod table_step;
 pub mod tally;
 pub mod words;

@@ -14,6 +14,18 @@ pub fn load(t: &[u64], q: usize, at: usize) -> Cells
     }
 }
 
+// The pair whose sign word is at s. Where two neighbours are loaded, the second is one word on from both words of the first, in so few operations that
+// the back end puts four pairs where they are called for.
+pub fn load_at(t: &[u64], at: usize, s: usize) -> Cells
+    requires { ⌜ (at < length (now t)) × (s < length (now t)) ⌝ }
+    ensures { λ r. ⌜ (r .unit ≡ getD (now (t .entry)) at 0) × (r .sign ≡ getD (now (t .entry)) s 0) ⌝ }
+{
+    Cells {
+        unit: t[at],
+        sign: t[s],
+    }
+}
+
 pub fn store(t: &mut [u64], q: usize, at: usize, v: Cells)
     requires { ⌜ at + q < length (now t) ⌝ }
     ensures { λ _. ⌜ now (t .exit) ≡ set (set (now (t .entry)) at (v .unit)) (at + q) (v .sign) ⌝ }

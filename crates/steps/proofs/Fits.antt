@@ -6,7 +6,7 @@ use lib.Pow.{pow-mono}
 use lib.ListN.{take, drop}
 use Rattle.cells.specs.Digit.{Matrix}
 use Rattle.cells.specs.Counts.{bitsOf}
-use Rattle.steps.specs.Step.{Step, tableStep, plus, minus, lowestBit, cleared}
+use Rattle.steps.specs.Step.{Step, tableStep, rowStep, plus, minus, lowestBit, cleared}
 use Rattle.steps.specs.StepList.{unless0, many, each, tableSteps, rowSteps, blockSteps, blocks, blockAt, steps}
 use Rattle.steps.proofs.LowestBit.{lowest-lt, cleared-lt}
 use Rattle.steps.proofs.BlockBits.{bits-lt}
@@ -15,8 +15,7 @@ use Rattle.steps.proofs.Loops.{width-within, width-le}
 -- What a step reads and writes: table rows below 2 ^ k, and row 0 only to read; rows of the product below m; rows of B below l.
 abbrev pub Fits : ℕ → ℕ → ℕ → Step → Type 0
 Fits m l k (tableStep s x) = (0 < x) × (x < 2 ^ k) × (cleared x < x) × (s + lowestBit x < l)
-Fits m l k (plus i P) = (i < m) × (0 < P) × (P < 2 ^ k)
-Fits m l k (minus i N) = (i < m) × (0 < N) × (N < 2 ^ k)
+Fits m l k (rowStep i d x) = (i < m) × (0 < x) × (x < 2 ^ k)
 
 abbrev pub AllFit : ℕ → ℕ → ℕ → List Step → Type 0
 AllFit m l k [] = Unit {0}
@@ -49,8 +48,7 @@ module _ (m l k : ℕ) where
 -- a narrower table is part of a wider one
 pub fits-wider : (m l w k : ℕ) → w ≤ k → (p : Step) → Fits m l w p → Fits m l k p
 fits-wider m l w k le (tableStep s x) (a, b, c, d) = (a, omega (arith, pow-mono le), c, d)
-fits-wider m l w k le (plus i x) (a, b, c) = (a, b, omega (arith, pow-mono le))
-fits-wider m l w k le (minus i x) (a, b, c) = (a, b, omega (arith, pow-mono le))
+fits-wider m l w k le (rowStep i d x) (a, b, c) = (a, b, omega (arith, pow-mono le))
 
 pub fit-wider : (m l w k : ℕ) → w ≤ k → (ps : List Step) → AllFit m l w ps → AllFit m l k ps
 fit-wider m l w k le [] f = tt
@@ -61,22 +59,17 @@ fit-wider m l w k le (p ∷ ps) (f, fs) = (fits-wider m l w k le p f, fit-wider 
 pub table-step-fits : (m l s w x : ℕ) → s + w ≤ l → 0 < x → x < 2 ^ w → Fits m l w (tableStep s x)
 table-step-fits m l s w x le p h = (p, h, cleared-lt x p, omega (arith, lowest-lt w x p h))
 
-plus-fits : (m l w i x : ℕ) → i < m → x < 2 ^ w → AllFit m l w (unless0 (plus i) x)
+pub row-step-fits : (m l w i d x : ℕ) → i < m → x < 2 ^ w → AllFit m l w (unless0 (rowStep i d) x)
 unfolding unless0
-plus-fits m l w i zero lt h = tt
-plus-fits m l w i (suc x) lt h = ((lt, omega arith, h), tt)
-
-minus-fits : (m l w i x : ℕ) → i < m → x < 2 ^ w → AllFit m l w (unless0 (minus i) x)
-unfolding unless0
-minus-fits m l w i zero lt h = tt
-minus-fits m l w i (suc x) lt h = ((lt, omega arith, h), tt)
+row-step-fits m l w i d zero lt h = tt
+row-step-fits m l w i d (suc x) lt h = ((lt, omega arith, h), tt)
 
 pub row-fits : (m l : ℕ) (A : Matrix) (s w i : ℕ) → i < m → AllFit m l w (rowSteps A s w i)
 unfolding rowSteps
 row-fits m l A s w i lt =
     let P = bitsOf 1 (A i) s w in
     let N = bitsOf 2 (A i) s w in
-    fit-append m l w (unless0 (plus i) P) (unless0 (minus i) N) (plus-fits m l w i P lt (bits-lt 1 (A i) w s)) (minus-fits m l w i N lt (bits-lt 2 (A i) w s))
+    fit-append m l w (unless0 (plus i) P) (unless0 (minus i) N) (row-step-fits m l w i 1 P lt (bits-lt 1 (A i) w s)) (row-step-fits m l w i 2 N lt (bits-lt 2 (A i) w s))
 
 pub block-fits : (m l : ℕ) (A : Matrix) (s w : ℕ) → s + w ≤ l → AllFit m l w (blockSteps m A s w)
 unfolding blockSteps tableSteps

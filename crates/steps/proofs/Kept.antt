@@ -7,7 +7,7 @@ use native.Mathlib.Omega.{arith}
 use native.Mathlib.Nat.{le-refl}
 use lib.ListN.{take, drop}
 use Rattle.cells.specs.Digit.{Matrix}
-use Rattle.steps.specs.Step.{Step, tableStep, plus, minus, State, apply, run}
+use Rattle.steps.specs.Step.{Step, tableStep, rowStep, State, apply, run}
 use Rattle.steps.specs.StepList.{each, blockSteps, blocks, blockWidth, blockAt, steps}
 use Rattle.steps.proofs.Running.{put-other, run-append}
 use Rattle.steps.proofs.Loops.{each-split, each-next, each-end}
@@ -22,8 +22,7 @@ module _ (m l w : ℕ) (B : Matrix) where
   unfolding apply
   apply-keeps-table (tableStep s y) st f x (inl e) j = put-other _ _ _ _ _ (λ (q : x ≡ y). omega arith)
   apply-keeps-table (tableStep s y) st f x (inr h) j = put-other _ _ _ _ _ (λ (q : x ≡ y). omega arith)
-  apply-keeps-table (plus i y) st f x u j = refl
-  apply-keeps-table (minus i y) st f x u j = refl
+  apply-keeps-table (rowStep i d y) st f x u j = refl
 
   pub run-keeps-table : (ps : List Step) (st : State) → AllFit m l w ps → (x : ℕ) → Untouched w x → (j : ℕ) → run B ps st .table x j ≡ st .table x j
   unfolding run

@@ -1,5 +1,5 @@
 -- Theorem: the known sums of document 01, by computation. Assumes nothing.
-use Rattle.cells.specs.Digit.{add3, sub3}
+use Rattle.cells.specs.Digit.{combine}
 use mathlib.Core.Path.{refl}
 use lib.Count.{trailingZeros}
 use Rattle.steps.specs.Matrix.{schoolbook}
@@ -12,7 +12,7 @@ use Rattle.steps.specs.Turn.{after}
 use Rattle.steps.specs.KnownSums.{KnownSums, written, listed, shown, sampleA, sampleB, sampleAfter}
 
 pub known-sums : KnownSums
-unfolding written listed shown sampleA sampleB sampleAfter after sum schoolbook lowestBit cleared trailingZeros put apply run opening is wordOf bitsOf unless0 many each tableSteps rowSteps blockSteps blocks blockWidth steps quote total add3 sub3
+unfolding written listed shown sampleA sampleB sampleAfter after sum schoolbook lowestBit cleared trailingZeros put apply run opening is wordOf bitsOf unless0 many each tableSteps rowSteps blockSteps blocks blockWidth steps quote total combine
 known-sums = record {
   1+1 = refl;
   1+2 = refl;

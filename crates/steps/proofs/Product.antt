@@ -6,10 +6,10 @@ use mathlib.Core.List.{[], _∷_}
 use native.Mathlib.Omega.{arith}
 use native.Mathlib.Nat.{le-refl, le-of-suc-le-suc, eq-or-lt-of-le, add-mul-mod-self-right}
 use lib.Pow.{pow-pos}
-use Rattle.cells.specs.Digit.{Matrix, add3, sub3}
+use Rattle.cells.specs.Digit.{Matrix, combine}
 use Rattle.cells.specs.Counts.{sum, bitsOf}
 use Rattle.steps.specs.Matrix.{Digits, schoolbook}
-use Rattle.steps.specs.Step.{tableStep, plus, minus, State, cleared, apply, run, opening}
+use Rattle.steps.specs.Step.{tableStep, rowStep, plus, minus, State, cleared, apply, run, opening}
 use Rattle.steps.specs.StepList.{unless0, tableSteps, rowSteps, blockSteps, blocks, blockWidth, blockAt, steps}
 use Rattle.cells.proofs.SumLaws.{sum-more}
 use Rattle.steps.proofs.LowestBit.{cleared-lt}
@@ -27,7 +27,7 @@ abbrev pub ProductKept : Matrix → State → Type 0
 ProductKept R st = (i j : ℕ) → st .product i j ≡ R i j
 
 table-step-right : (B : Matrix) (s w n : ℕ) → 0 < n → n < 2 ^ w → (st : State) → TableMade B s w n st → TableMade B s w (suc n) (apply B (tableStep s n) st)
-unfolding apply add3
+unfolding apply combine
 table-step-right B s w n pos h st tab x lt j = go (eq-or-lt-of-le (le-of-suc-le-suc lt))
   where
     go : (x ≡ n) ⊎ (x < n) → apply B (tableStep s n) st .table x j ≡ picked x (λ t. B t j) s w % 3
@@ -63,15 +63,10 @@ record Ready (i : ℕ) (st : State) : Type 0 where
 nothing : (c i : ℕ) (st : State) → Ready i st → Added c i 0 st st
 nothing c i st r = record { table = refl; here = λ j. rw (r .none j) (omega (arith, r .digits j)); there = λ i′ n j. refl }
 
-plus-right : (B : Matrix) (i x : ℕ) (st : State) → Ready i st → Added 1 i x st (run B (unless0 (plus i) x) st)
-unfolding run apply unless0 add3
-plus-right B i zero st r = nothing 1 i st r
-plus-right B i (suc x) st r = record { table = refl; here = λ j. rw put-same (omega arith); there = λ i′ n j. put-other _ _ _ _ _ n }
-
-minus-right : (B : Matrix) (i x : ℕ) (st : State) → Ready i st → Added 2 i x st (run B (unless0 (minus i) x) st)
-unfolding run apply unless0 sub3
-minus-right B i zero st r = nothing 2 i st r
-minus-right B i (suc x) st r = record { table = refl; here = λ j. put-same _ _ _ _; there = λ i′ n j. put-other _ _ _ _ _ n }
+row-step-right : (B : Matrix) (i d x : ℕ) (st : State) → Ready i st → Added d i x st (run B (unless0 (rowStep i d) x) st)
+unfolding run apply unless0 combine
+row-step-right B i d zero st r = nothing d i st r
+row-step-right B i d (suc x) st r = record { table = refl; here = λ j. put-same _ _ _ _; there = λ i′ n j. put-other _ _ _ _ _ n }
 
 -- two numbers that differ by a multiple of 3 have one digit
 congruent : (x y q : ℕ) → y ≡ x + q * 3 → x % 3 ≡ y % 3
@@ -110,10 +105,10 @@ module _ (A B : Matrix) (s w i : ℕ) (digits : (t : ℕ) → t < s + w → A i 
       st₁ = run B (unless0 (plus i) P) st
 
       added : Added 1 i P st st₁
-      added = plus-right B i P st (record { digits = λ j. omega (arith, so-far j); none = zeros })
+      added = row-step-right B i 1 P st (record { digits = λ j. omega (arith, so-far j); none = zeros })
 
       minused : Added 2 i N st₁ (run B (unless0 (minus i) N) st₁)
-      minused = minus-right B i N st₁ (record { digits = λ j. omega (arith, added .here j); none = λ j. rw (added .table) (zeros j) })
+      minused = row-step-right B i 2 N st₁ (record { digits = λ j. omega (arith, added .here j); none = λ j. rw (added .table) (zeros j) })
 
 -- ---- a block, and all blocks
 

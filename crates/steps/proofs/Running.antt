@@ -6,9 +6,9 @@ use mathlib.Core.Bool.{Bool, true, false}
 use mathlib.Core.List.{List, [], _∷_, _++_}
 use native.Mathlib.Omega.{arith}
 use lib.Dec.{eqb, eqb→eq, eqb-refl, T}
-use Rattle.cells.specs.Digit.{Matrix, add3, sub3}
+use Rattle.cells.specs.Digit.{Matrix, combine}
 use Rattle.steps.specs.Matrix.{Row}
-use Rattle.steps.specs.Step.{Step, tableStep, plus, minus, State, put, apply, run, opening}
+use Rattle.steps.specs.Step.{Step, tableStep, rowStep, State, put, apply, run, opening}
 use Rattle.steps.specs.StepList.{many, each}
 
 -- ---- a row that is put
@@ -61,10 +61,9 @@ pub record StateDigits (st : State) : Type 0 where
   pub product : (i j : ℕ) → st .product i j < 3
 
 pub apply-digits : (B : Matrix) (p : Step) (st : State) → StateDigits st → StateDigits (apply B p st)
-unfolding apply add3 sub3
+unfolding apply combine
 apply-digits B (tableStep s x) st d = record { table = put-all (λ v. v < 3) _ _ _ (λ j. omega arith) (d .table); product = d .product }
-apply-digits B (plus i x) st d = record { table = d .table; product = put-all (λ v. v < 3) _ _ _ (λ j. omega arith) (d .product) }
-apply-digits B (minus i x) st d = record { table = d .table; product = put-all (λ v. v < 3) _ _ _ (λ j. omega arith) (d .product) }
+apply-digits B (rowStep i e x) st d = record { table = d .table; product = put-all (λ v. v < 3) _ _ _ (λ j. omega arith) (d .product) }
 
 pub run-digits : (B : Matrix) (ps : List Step) (st : State) → StateDigits st → StateDigits (run B ps st)
 unfolding run

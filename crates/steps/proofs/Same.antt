@@ -6,7 +6,7 @@ use native.Mathlib.Omega.{arith}
 use native.Mathlib.Decide.{ℕ-discrete}
 use Rattle.cells.specs.Digit.{Matrix}
 use Rattle.steps.specs.Matrix.{Row, SameCells}
-use Rattle.steps.specs.Step.{Step, tableStep, plus, minus, State, lowestBit, cleared, put, apply, run}
+use Rattle.steps.specs.Step.{Step, tableStep, rowStep, State, lowestBit, cleared, put, apply, run}
 use Rattle.steps.specs.StepList.{rowSteps, blockSteps, blocks, blockWidth, steps}
 use Rattle.steps.proofs.BlockBits.{bits-same}
 use Rattle.steps.proofs.Running.{put-same, put-other}
@@ -51,11 +51,7 @@ module _ (k m l n : ℕ) (B B′ : Matrix) (sameB : SameCells l n B B′) where
     table = put-cells _ n _ _ x _ _ (same .table) (λ j q. rw (same .table (cleared x) j (omega arith) q, sameB (s + lowestBit x) j t q));
     product = same .product;
   }
-  apply-same (plus i x) st st′ (lt, _, h) same = record {
-    table = same .table;
-    product = put-cells _ n _ _ i _ _ (same .product) (λ j q. rw (same .product i j lt q, same .table x j h q));
-  }
-  apply-same (minus i x) st st′ (lt, _, h) same = record {
+  apply-same (rowStep i d x) st st′ (lt, _, h) same = record {
     table = same .table;
     product = put-cells _ n _ _ i _ _ (same .product) (λ j q. rw (same .product i j lt q, same .table x j h q));
   }

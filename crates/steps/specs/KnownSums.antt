@@ -3,7 +3,7 @@ use Prim.Native.Nat.{ℕ, zero, suc, _+_, _-_, _*_, _/_}
 use mathlib.Core.Path.{_≡_}
 use mathlib.Core.List.{List, [], _∷_, map}
 use lib.ListN.{getD}
-use Rattle.cells.specs.Digit.{Matrix, add3, sub3}
+use Rattle.cells.specs.Digit.{Matrix, combine}
 use Rattle.steps.specs.Matrix.{schoolbook}
 use Rattle.steps.specs.Step.{State, opening}
 use Rattle.steps.specs.StepList.{blockWidth, steps}
@@ -33,11 +33,11 @@ unfoldable pub sampleAfter : ℕ → State
 sampleAfter j = after sampleB (steps 2 3 2 sampleA) opening j
 
 pub record KnownSums : Type 0 where
-  pub 1+1 : add3 1 1 ≡ 2
-  pub 1+2 : add3 1 2 ≡ 0
-  pub 2+2 : add3 2 2 ≡ 1
-  pub 0-1 : sub3 0 1 ≡ 2
-  pub 2-1 : sub3 2 1 ≡ 1
+  pub 1+1 : combine 1 1 1 ≡ 2
+  pub 1+2 : combine 1 1 2 ≡ 0
+  pub 2+2 : combine 1 2 2 ≡ 1
+  pub 0-1 : combine 2 0 1 ≡ 2
+  pub 2-1 : combine 2 2 1 ≡ 1
   pub product : shown 2 2 (schoolbook 3 sampleA sampleB) ≡ (2 ∷ 2 ∷ []) ∷ (2 ∷ 0 ∷ []) ∷ []
   pub totals : map (λ k. total 2 3 k sampleA) (1 ∷ 2 ∷ 3 ∷ 8 ∷ []) ≡ 7 ∷ 8 ∷ 11 ∷ 11 ∷ []
   pub product-after-4 : shown 2 2 (sampleAfter 4 .product) ≡ (1 ∷ 0 ∷ []) ∷ (0 ∷ 0 ∷ []) ∷ []

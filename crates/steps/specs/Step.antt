@@ -4,16 +4,22 @@ use mathlib.Core.Bool.{true, false}
 use mathlib.Core.List.{List, [], _∷_}
 use lib.Dec.{eqb}
 use lib.Count.{trailingZeros}
-use Rattle.cells.specs.Digit.{Matrix, add3, sub3}
+use Rattle.cells.specs.Digit.{Matrix, combine}
 use Rattle.steps.specs.Matrix.{Row}
 
 pub data Step : Type 0 where
   -- table row x is made, in the block whose first column is s
   tableStep : (s x : ℕ) → Step
-  -- table row P is added to row i of the product
-  plus : (i P : ℕ) → Step
-  -- table row N is subtracted from row i of the product
-  minus : (i N : ℕ) → Step
+  -- the digit d times table row x is added to row i of the product
+  rowStep : (i d x : ℕ) → Step
+
+-- table row P is added to row i of the product
+abbrev pub plus : ℕ → ℕ → Step
+plus i P = rowStep i 1 P
+
+-- table row N is subtracted from row i of the product
+abbrev pub minus : ℕ → ℕ → Step
+minus i N = rowStep i 2 N
 
 pub record State : Type 0 where
   pub table : Matrix
@@ -35,16 +41,12 @@ put M x r i j = elim (eqb i x) [ true ↦ r j | false ↦ M i j ]
 -- s + lowestBit x of B. A table step for an x of one bit reads table row 0 as it is found.
 unfoldable pub apply : Matrix → Step → State → State
 apply B (tableStep s x) st = record {
-  table = put (st .table) x (λ j. add3 (st .table (cleared x) j) (B (s + lowestBit x) j));
+  table = put (st .table) x (λ j. combine 1 (st .table (cleared x) j) (B (s + lowestBit x) j));
   product = st .product;
 }
-apply B (plus i P) st = record {
+apply B (rowStep i d x) st = record {
   table = st .table;
-  product = put (st .product) i (λ j. add3 (st .product i j) (st .table P j));
-}
-apply B (minus i N) st = record {
-  table = st .table;
-  product = put (st .product) i (λ j. sub3 (st .product i j) (st .table N j));
+  product = put (st .product) i (λ j. combine d (st .product i j) (st .table x j));
 }
 
 -- the steps one after another

@@ -7,10 +7,11 @@ use native.Mathlib.Omega.{arith}
 use lib.Pow.{pow-pos}
 use lib.ListN.{length, drop-of-length-le}
 use Rattle.cells.specs.Bit.{bit}
-use Rattle.cells.specs.Digit.{Matrix}
+use Rattle.cells.specs.Digit.{Matrix, combine}
 use Rattle.cells.specs.Lowest.{Peels}
-use Rattle.buffers.specs.Buffer.{Legal, Words}
-use Rattle.steps.specs.Step.{Step, tableStep, minus, lowestBit, cleared}
+use Rattle.buffers.specs.Buffer.{planes, Legal, Words}
+use Rattle.rows.specs.Row.{of2, Made}
+use Rattle.steps.specs.Step.{Step, tableStep, rowStep, lowestBit, cleared}
 use Rattle.steps.specs.StepList.{unless0, each, tableSteps, rowSteps, blockSteps, blocks, blockWidth, blockAt, steps}
 use Rattle.steps.specs.Count.{countAt}
 use Rattle.cells.specs.Counts.{sum}
@@ -24,7 +25,7 @@ use Rattle.walk.specs.declared.Left.{Left}
 use Rattle.walk.specs.Spent.{Spent}
 use Rattle.walk.specs.Ran.{Ran}
 use Rattle.walk.proofs.DueLaws.{due-nothing, due-nil, due-skipped, due-made, due-more, spent-none, due-after, spent-append, table-length, table-due}
-use Rattle.walk.proofs.RanLaws.{ran-none, ran-more}
+use Rattle.walk.proofs.RanLaws.{ran-none, ran-more, ran-row-step}
 
 -- ---- the lowest bit of a table row's number
 
@@ -68,6 +69,12 @@ module _ (k m n : ℕ) (B : Matrix) (step : ℕ → Step) (x : ℕ) (t p p′ : 
   pub step-made : 0 < x → Ran k m n B (step x ∷ []) t p t p′ → Ran k m n B (unless0 step x) t p t p′
   step-made h R = rw (unless-some step x h) R
 
+-- the row step of digit d, by what is made with the digit e
+module _ (k m n q : ℕ) (row : q ≡ planes n) {t p p′ : List ℕ} (L : Legal (2 ^ k) n t) (fits : Words t) (K : Legal m n p) (fits′ : Words p) where
+  pub row-step-made : (i d e x : ℕ) → d ≡ e → i < m → 0 < x → x < 2 ^ k → Made (of2 (combine e) q p (i * (2 * q)) t (x * (2 * q))) (i * (2 * q)) q q p p′
+      → (B : Matrix) → Ran k m n B (unless0 (rowStep i d) x) t p t p′
+  row-step-made i d e x same h pos hx M B = rw same (step-made k m n B (rowStep i e) x t p p′ pos (ran-row-step k m n q row t p L fits K fits′ B i e x p′ h hx M))
+
 module _ (k m n : ℕ) (step : ℕ → Step) (x : ℕ) (a b : Left) (t p p′ : List ℕ) where
   abbrev Carried : Type 0
   Carried = Spent a (length (unless0 step x)) b × ((B : Matrix) → Ran k m n B (due (a .skip) (a .budget) (unless0 step x)) t p t p′)
@@ -94,11 +101,11 @@ module _ (k m n : ℕ) (step : ℕ → Step) (x : ℕ) (a b : Left) (t p p′ : 
       idle same L fits K fits′ (rw (unless-some step x hx, e) (record { skip = rw ez; budget = rw (eg, ez) }))
       (ap (λ (g : ℕ). due (a .skip) g (unless0 step x)) eg ∙ due-nothing (a .skip) (unless0 step x))
 
-  pub piece-made : 0 < x → a .skip ≡ 0 → 0 < a .budget → b .skip ≡ 0 → b .budget ≡ a .budget - 1 → ((B : Matrix) → Ran k m n B (step x ∷ []) t p t p′) → Carried
+  pub piece-made : 0 < x → a .skip ≡ 0 → 0 < a .budget → b .skip ≡ 0 → b .budget ≡ a .budget - 1 → ((B : Matrix) → Ran k m n B (unless0 step x) t p t p′) → Carried
   piece-made hx ez hg bz bg R =
       let e : a .budget ≡ suc (a .budget - 1) = omega arith in (
         rw (unless-some step x hx) (record { skip = bz ∙ rw ez; budget = bg ∙ rw ez }),
-        λ B. rw (ap₂ (λ (z g : ℕ). due z g (unless0 step x)) ez e ∙ ap (due 0 (suc (a .budget - 1))) (unless-some step x hx) ∙ due-made (a .budget - 1) (step x)) (R B),
+        λ B. rw (ap₂ (λ (z g : ℕ). due z g (unless0 step x)) ez e ∙ ap (due 0 (suc (a .budget - 1))) (unless-some step x hx) ∙ due-made (a .budget - 1) (step x) ∙ sym (unless-some step x hx)) (R B),
       )
 
 -- ---- two pieces, one after the other
@@ -109,11 +116,6 @@ module _ (k m n l : ℕ) (B : Matrix) (ps qs : List Step) (a b : Left) (t p t′
   joined fit S R T =
       subst (λ (ds : List Step). Ran k m n B ds t p t″ p″) (sym (due-after ps qs a b S))
       (ran-more k m n B l (due (a .skip) (a .budget) ps) (due (b .skip) (b .budget) qs) t p t′ p′ t″ p″ (fit-due m l k (b .skip) (b .budget) qs fit) R T)
-
-pub unless-fits : (m l k i x : ℕ) → i < m → x < 2 ^ k → AllFit m l k (unless0 (minus i) x)
-unfolding unless0
-unless-fits m l k i zero h hx = tt
-unless-fits m l k i (suc x) h hx = ((h, omega arith, hx), tt)
 
 -- ---- the table rows of a block
 

@@ -3,12 +3,12 @@ use mathlib.Core.Path.{_≡_, refl, sym, ap, _∙_}
 use mathlib.Core.List.{List, [], _∷_, _++_}
 use Prim.Native.Nat.{ℕ, _+_, _*_, _^_, _<_}
 use native.Mathlib.Omega.{arith}
-use Rattle.cells.specs.Digit.{Matrix, add3, sub3}
+use Rattle.cells.specs.Digit.{Matrix, combine}
 use Rattle.buffers.specs.Buffer.{planes, cell, Legal, Words, encode}
 use Rattle.buffers.proofs.SizeLaws.{cell-lt}
 use Rattle.buffers.proofs.BufferLaws.{cell-encode, encode-cell, encode-legal, encode-within}
 use Rattle.rows.specs.Row.{of2, Made}
-use Rattle.steps.specs.Step.{Step, tableStep, plus, minus, State, lowestBit, cleared, apply, run}
+use Rattle.steps.specs.Step.{Step, tableStep, rowStep, State, lowestBit, cleared, apply, run}
 use Rattle.steps.proofs.Fits.{AllFit}
 use Rattle.steps.proofs.Running.{StateDigits, run-append, run-digits}
 use Rattle.steps.proofs.Same.{SameState, run-same}
@@ -54,25 +54,18 @@ module _ (k m n : ℕ) (B : Matrix) where
 
 module _ (k m n q : ℕ) (e : q ≡ planes n) (t p : List ℕ) (L : Legal (2 ^ k) n t) (fits : Words t) (K : Legal m n p) (fits′ : Words p) where
   pub ran-table-step : (l : ℕ) (b t′ : List ℕ) (s x y z : ℕ) → Legal l n b → 0 < x → x < 2 ^ k → y ≡ cleared x → y < x → z ≡ s + lowestBit x → z < l
-      → Made (of2 add3 q t (y * (2 * q)) b (z * (2 * q))) (x * (2 * q)) q q t t′ → Ran k m n (cell n b) (tableStep s x ∷ []) t p t′ p
-  unfolding run apply found add3
+      → Made (of2 (combine 1) q t (y * (2 * q)) b (z * (2 * q))) (x * (2 * q)) q q t t′ → Ran k m n (cell n b) (tableStep s x ∷ []) t p t′ p
+  unfolding run apply found combine
   ran-table-step l b t′ s x y z J pos h ey hy ez hz M = record {
     table =
-        op-put add3 refl (2 ^ k) n x q t (2 ^ k) y t l z b t′ e L fits L J h (omega arith) hz M
+        op-put (combine 1) refl (2 ^ k) n x q t (2 ^ k) y t l z b t′ e L fits L J h (omega arith) hz M
         ∙ rw (ey, ez);
     product = sym (encode-cell m n p K fits′);
   }
 
-  pub ran-plus : (B : Matrix) (i x : ℕ) (p′ : List ℕ) → i < m → x < 2 ^ k → Made (of2 add3 q p (i * (2 * q)) t (x * (2 * q))) (i * (2 * q)) q q p p′ → Ran k m n B (plus i x ∷ []) t p t p′
-  unfolding run apply found add3
-  ran-plus B i x p′ h hx M = record {
+  pub ran-row-step : (B : Matrix) (i d x : ℕ) (p′ : List ℕ) → i < m → x < 2 ^ k → Made (of2 (combine d) q p (i * (2 * q)) t (x * (2 * q))) (i * (2 * q)) q q p p′ → Ran k m n B (rowStep i d x ∷ []) t p t p′
+  unfolding run apply found combine
+  ran-row-step B i d x p′ h hx M = record {
     table = sym (encode-cell (2 ^ k) n t L fits);
-    product = op-put add3 refl m n i q p m i p (2 ^ k) x t p′ e K fits′ K L h h hx M;
-  }
-
-  pub ran-minus : (B : Matrix) (i x : ℕ) (p′ : List ℕ) → i < m → x < 2 ^ k → Made (of2 sub3 q p (i * (2 * q)) t (x * (2 * q))) (i * (2 * q)) q q p p′ → Ran k m n B (minus i x ∷ []) t p t p′
-  unfolding run apply found sub3
-  ran-minus B i x p′ h hx M = record {
-    table = sym (encode-cell (2 ^ k) n t L fits);
-    product = op-put sub3 refl m n i q p m i p (2 ^ k) x t p′ e K fits′ K L h h hx M;
+    product = op-put (combine d) (omega arith) m n i q p m i p (2 ^ k) x t p′ e K fits′ K L h h hx M;
   }

@@ -3,6 +3,7 @@ pub mod blocks;
 pub mod count;
 mod piece;
 pub mod place;
+mod row_step;
 mod rows_part;
 mod table_part;
 pub mod whole;

@@ -10,8 +10,7 @@ ghost use Rattle.walk.specs.Spent.{Spent};
 ghost use Rattle.walk.specs.Ran.{Ran};
 ghost use Rattle.walk.specs.Shape.{Within};
 use super::count::bits;
-use super::piece::minus_piece;
-use super::piece::plus_piece;
+use super::piece::piece;
 use crate::Left;
 use crate::Shape;
 use buffers::planes::planes;
@@ -32,8 +31,8 @@ fn row_part(
     ensures { λ r. ⌜ Spent left (length (rowSteps (cell (shape .l) (now (a .entry))) s w i)) r × ((B : Matrix) → Ran (shape .width) (shape .m) (shape .n) B (due (left .skip) (left .budget) (rowSteps (cell (shape .l) (now (a .entry))) s w i)) (now (table .entry)) (now (product .entry)) (now (table .entry)) (now (product .exit))) ⌝ }
 {
     let bits = bits(a, shape.m, shape.l, planes(shape.l), i, s, w);
-    let mid = plus_piece(product, table, shape, q, i, bits.ones, left);
-    minus_piece(product, table, shape, q, i, bits.twos, mid)
+    let mid = piece(product, table, shape, q, i, 1, bits.ones, left);
+    piece(product, table, shape, q, i, 2, bits.twos, mid)
 }
 
 pub fn rows_part(

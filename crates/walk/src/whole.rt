@@ -3,42 +3,16 @@ ghost use mathlib.Core.Path.{_≡_};
 ghost use Prim.Native.Nat.{_+_, _*_, _^_, _≤_, _<_};
 ghost use Rattle.cells.specs.Digit.{Matrix};
 ghost use Rattle.buffers.specs.Buffer.{planes, cell, Legal};
-ghost use Rattle.steps.specs.Step.{plus, minus};
-ghost use Rattle.steps.specs.StepList.{unless0, each, rowSteps, blocks, blockAt, steps};
+ghost use Rattle.steps.specs.StepList.{each, rowSteps, blocks, blockAt, steps};
 ghost use Rattle.walk.specs.Ran.{Ran};
 ghost use Rattle.walk.specs.Shape.{Within};
 use super::count::bits;
 use super::place::blocks;
 use super::place::width;
+use super::row_step::row_step;
 use super::table_part::table_part;
 use crate::Shape;
 use buffers::planes::planes;
-use rows::add::add;
-use rows::subtract::subtract;
-
-// The step that adds table row x to row i of the product: none where x is 0.
-fn plus_all(product: &mut [u64], table: &[u64], shape: Shape, q: usize, i: usize, x: u64)
-    requires { ⌜ Within shape × (q ≡ planes (shape .n)) × Legal (shape .m) (shape .n) (now product) × Legal (2 ^ shape .width) (shape .n) (now table) × (i < shape .m) × (x < 2 ^ shape .width) ⌝ }
-    ensures { λ _. ⌜ ((B : Matrix) → Ran (shape .width) (shape .m) (shape .n) B (unless0 (plus i) x) (now (table .entry)) (now (product .entry)) (now (table .entry)) (now (product .exit))) ⌝ }
-{
-    if x == 0 {
-        return;
-    }
-    let wide = 2 * q;
-    add(product, table, q, i * wide, (x as usize) * wide);
-}
-
-// The step that subtracts table row x from row i of the product: none where x is 0.
-fn minus_all(product: &mut [u64], table: &[u64], shape: Shape, q: usize, i: usize, x: u64)
-    requires { ⌜ Within shape × (q ≡ planes (shape .n)) × Legal (shape .m) (shape .n) (now product) × Legal (2 ^ shape .width) (shape .n) (now table) × (i < shape .m) × (x < 2 ^ shape .width) ⌝ }
-    ensures { λ _. ⌜ ((B : Matrix) → Ran (shape .width) (shape .m) (shape .n) B (unless0 (minus i) x) (now (table .entry)) (now (product .entry)) (now (table .entry)) (now (product .exit))) ⌝ }
-{
-    if x == 0 {
-        return;
-    }
-    let wide = 2 * q;
-    subtract(product, table, q, i * wide, (x as usize) * wide);
-}
 
 // Row i: P is added, and then N subtracted.
 fn row_all(
@@ -56,8 +30,8 @@ fn row_all(
     ensures { λ _. ⌜ ((B : Matrix) → Ran (shape .width) (shape .m) (shape .n) B (rowSteps (cell (shape .l) (now (a .entry))) s w i) (now (table .entry)) (now (product .entry)) (now (table .entry)) (now (product .exit))) ⌝ }
 {
     let bits = bits(a, shape.m, shape.l, p, i, s, w);
-    plus_all(product, table, shape, q, i, bits.ones);
-    minus_all(product, table, shape, q, i, bits.twos);
+    row_step(product, table, shape, q, i, 1, bits.ones);
+    row_step(product, table, shape, q, i, 2, bits.twos);
 }
 
 fn rows_all(product: &mut [u64], table: &[u64], a: &[u64], shape: Shape, s: usize, w: usize)

@@ -133,6 +133,18 @@ pub fn put(columns: usize, words: &mut [u64], (i, j): At, (unit, sign): (bool, b
     }
 }
 
+/// Two matrices of one size, cell by cell: by the digit 0 the first, by 1 their sum, by 2 their difference.
+pub fn combined(mut a: Digits, b: &Digits, digit: u64) -> Digits {
+    for (x, y) in a.cells.iter_mut().zip(&b.cells) {
+        *x = match digit {
+            0 => *x,
+            1 => (*x + *y) % 3,
+            _ => (*x + 3 - *y) % 3,
+        };
+    }
+    a
+}
+
 /// The schoolbook product. A sum is at most four times the columns of A, which are 1,024 or fewer.
 pub fn product(a: &Digits, b: &Digits) -> Digits {
     let mut made = Digits::zero(a.rows, b.columns);

@@ -3,8 +3,7 @@
 #[derive(Clone, Copy, PartialEq, Debug)]
 pub enum Name {
     Check,
-    Sum,
-    Difference,
+    Combination,
     Negation,
     Product,
     Width,
@@ -13,12 +12,12 @@ pub enum Name {
     Turn,
 }
 
-pub const NAMES: [Name; 9] =
-    [Name::Check, Name::Sum, Name::Difference, Name::Negation, Name::Product, Name::Width, Name::Quote, Name::Open, Name::Turn];
+pub const NAMES: [Name; 8] =
+    [Name::Check, Name::Combination, Name::Negation, Name::Product, Name::Width, Name::Quote, Name::Open, Name::Turn];
 
 impl Name {
     pub fn text(self) -> &'static str {
-        ["check", "sum", "difference", "negation", "product", "width", "quote", "open", "turn"][self as usize]
+        ["check", "combination", "negation", "product", "width", "quote", "open", "turn"][self as usize]
     }
 
     pub fn has_b(self) -> bool {
@@ -53,7 +52,8 @@ impl Name {
     pub fn numbers(self) -> &'static [u8] {
         match self {
             Name::Check | Name::Negation => &[0, 1, 4, 5, 6, 11],
-            Name::Sum | Name::Difference | Name::Product => &[0, 1, 2, 4, 5, 6, 11],
+            Name::Combination => &[0, 1, 2, 4, 5, 6, 8, 11],
+            Name::Product => &[0, 1, 2, 4, 5, 6, 11],
             Name::Width | Name::Quote => &[0, 1, 3, 4, 11],
             Name::Open => &[0, 1, 2, 3, 4, 5, 6, 11],
             Name::Turn => &[0, 1, 3, 4, 5, 6, 7, 11],
@@ -68,6 +68,7 @@ pub struct Call {
     pub a_size: (u64, u64),
     pub b_size: (u64, u64),
     pub width: u64,
+    pub digit: u64,
     pub budget: u32,
     pub record: Vec<u8>,
     pub a: Vec<u8>,

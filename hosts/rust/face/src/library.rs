@@ -7,23 +7,12 @@ pub type Size = (u64, u64);
 mod c {
     extern "C" {
         pub fn nyuzolamba_check(rows: u64, columns: u64, a: *const u8, a_bytes: usize) -> u64;
-        pub fn nyuzolamba_sum(
+        pub fn nyuzolamba_combination(
             a_rows: u64,
             a_columns: u64,
             b_rows: u64,
             b_columns: u64,
-            a: *const u8,
-            a_bytes: usize,
-            b: *const u8,
-            b_bytes: usize,
-            out: *mut u8,
-            out_bytes: usize,
-        ) -> u64;
-        pub fn nyuzolamba_difference(
-            a_rows: u64,
-            a_columns: u64,
-            b_rows: u64,
-            b_columns: u64,
+            digit: u64,
             a: *const u8,
             a_bytes: usize,
             b: *const u8,
@@ -83,12 +72,8 @@ pub fn check(size: Size, a: &[u8]) -> u64 {
     unsafe { c::nyuzolamba_check(size.0, size.1, a.as_ptr(), a.len()) }
 }
 
-pub fn sum(x: Size, y: Size, a: &[u8], b: &[u8], out: &mut [u8]) -> u64 {
-    unsafe { c::nyuzolamba_sum(x.0, x.1, y.0, y.1, a.as_ptr(), a.len(), b.as_ptr(), b.len(), out.as_mut_ptr(), out.len()) }
-}
-
-pub fn difference(x: Size, y: Size, a: &[u8], b: &[u8], out: &mut [u8]) -> u64 {
-    unsafe { c::nyuzolamba_difference(x.0, x.1, y.0, y.1, a.as_ptr(), a.len(), b.as_ptr(), b.len(), out.as_mut_ptr(), out.len()) }
+pub fn combination(x: Size, y: Size, digit: u64, a: &[u8], b: &[u8], out: &mut [u8]) -> u64 {
+    unsafe { c::nyuzolamba_combination(x.0, x.1, y.0, y.1, digit, a.as_ptr(), a.len(), b.as_ptr(), b.len(), out.as_mut_ptr(), out.len()) }
 }
 
 pub fn negation(size: Size, a: &[u8], out: &mut [u8]) -> u64 {

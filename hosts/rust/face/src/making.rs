@@ -11,6 +11,8 @@ use crate::spoil;
 const SIZES: [u64; 10] = [0, 1, 2, 3, 5, 8, 31, 63, 64, 64];
 const BIG: [u64; 10] = [65, 66, 128, 1023, 1024, 1025, 1 << 32, 1 << 63, u64::MAX, (1 << 32) + 1];
 const WIDE: [u64; 6] = [9, 10, 64, 255, 1 << 40, u64::MAX];
+/// Digits above 2, some of which a narrower number would hold as 0, 1 or 2.
+const ABOVE: [u64; 10] = [3, 3, 4, 255, 256, 257, 258, (1 << 32) + 1, 1 << 63, u64::MAX];
 
 #[derive(Clone, Copy, PartialEq)]
 enum Fault {
@@ -24,9 +26,10 @@ enum Fault {
     Noise,
     Steps,
     RecordLength,
+    Digit,
 }
 
-const FAULTS: [Fault; 10] = [
+const FAULTS: [Fault; 11] = [
     Fault::Count,
     Fault::Misfit,
     Fault::Width,
@@ -37,6 +40,7 @@ const FAULTS: [Fault; 10] = [
     Fault::Noise,
     Fault::Steps,
     Fault::RecordLength,
+    Fault::Digit,
 ];
 
 /// Sizes and width of a call before its buffers are made.
@@ -69,7 +73,7 @@ fn plan(random: &mut Random, name: Name) -> Plan {
     Plan {
         name,
         a_size: (m, l),
-        b_size: if matches!(name, Name::Sum | Name::Difference) { (m, l) } else { (l, n) },
+        b_size: if name == Name::Combination { (m, l) } else { (l, n) },
         width: if (name == Name::Open || name.counts()) && random.once_in(3) { 0 } else { 1 + random.below(8) as u64 },
     }
 }
@@ -140,6 +144,9 @@ pub fn single(random: &mut Random) -> Call {
     }
     let mut call = made(random, &plan);
     call.shared = shared;
+    if has(Fault::Digit) && name == Name::Combination {
+        call.digit = random.of(&ABOVE);
+    }
     for fault in &faults {
         match fault {
             Fault::Stray if name.looks_at() > 0 => cells(random, &mut call, &plan, true),
@@ -185,6 +192,7 @@ fn made(random: &mut Random, plan: &Plan) -> Call {
         a_size: a,
         b_size: b,
         width: plan.width,
+        digit: random.below(3) as u64,
         budget: random.budget(),
         record: if job { noise(random, 56) } else { Vec::new() },
         a: if counts { Vec::new() } else { legal(random, a.0, a.1) },

@@ -2,7 +2,7 @@
 //! list of row steps walked entry by entry.
 
 use crate::call::{bytes, words, Call, Name, Written};
-use crate::digits::{faults, list, product, walk, words_of_plane, Digits};
+use crate::digits::{combined, faults, list, product, walk, words_of_plane, Digits};
 use crate::quotes::{default_width, quote};
 use crate::refusals::{of_cells, Refusal};
 
@@ -24,6 +24,7 @@ pub fn refusals(call: &Call) -> Vec<Refusal> {
         (2, misfit(call)),
         (3, width > 8 || width == 0),
         (4, unlike_count(call) || buffers.iter().any(|buffer| buffer.length().map_or(false, |length| length != buffer.bytes.len()))),
+        (8, call.name == Name::Combination && call.digit > 2),
     ];
     found.extend(tests.iter().filter(|(_, holds)| *holds).map(|(number, _)| Refusal::without_place(*number)));
     for (before, buffer) in buffers.iter().enumerate().filter(|(_, buffer)| buffer.read && buffer.fits()) {
@@ -56,7 +57,7 @@ fn meant(call: &Call) -> u64 {
 
 fn misfit(call: &Call) -> bool {
     match call.name {
-        Name::Sum | Name::Difference => call.a_size != call.b_size,
+        Name::Combination => call.a_size != call.b_size,
         Name::Product | Name::Open => call.a_size.1 != call.b_size.0,
         _ => false,
     }
@@ -109,7 +110,7 @@ fn buffers<'a>(call: &'a Call, counts: &[u64], width: u64) -> Vec<Buffer<'a>> {
         Name::Width | Name::Quote => Vec::new(),
         Name::Check => vec![a(&call.a, true)],
         Name::Negation => vec![a(&call.a, true), a(&call.product, false)],
-        Name::Sum | Name::Difference => vec![a(&call.a, true), buffer(&call.b, counts[2], last, true), a(&call.product, false)],
+        Name::Combination => vec![a(&call.a, true), buffer(&call.b, counts[2], last, true), a(&call.product, false)],
         Name::Product => vec![a(&call.a, true), buffer(&call.b, counts[2], last, true), buffer(&call.product, counts[0], last, false)],
         Name::Open | Name::Turn => {
             let turn = call.name == Name::Turn;
@@ -145,13 +146,9 @@ pub fn done(call: &Call) -> Written {
             }
             left.product = bytes(&a.words());
         }
-        Name::Sum | Name::Difference => {
-            let mut a = digits(call.a_size, &call.a);
-            let b = digits(call.b_size, &call.b);
-            for (x, y) in a.cells.iter_mut().zip(&b.cells) {
-                *x = if call.name == Name::Sum { (*x + *y) % 3 } else { (*x + 3 - *y) % 3 };
-            }
-            left.product = bytes(&a.words());
+        Name::Combination => {
+            let (a, b) = (digits(call.a_size, &call.a), digits(call.b_size, &call.b));
+            left.product = bytes(&combined(a, &b, call.digit).words());
         }
         Name::Product => {
             let (a, b) = (digits(call.a_size, &call.a), digits(call.b_size, &call.b));

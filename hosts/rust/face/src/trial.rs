@@ -34,8 +34,7 @@ pub fn carry_out(random: &mut Random, call: &Call) -> Trial {
         let (x, y) = (call.a_size, call.b_size);
         match call.name {
             Name::Check => library::check(x, a),
-            Name::Sum => library::sum(x, y, a, b, product.part()),
-            Name::Difference => library::difference(x, y, a, b, product.part()),
+            Name::Combination => library::combination(x, y, call.digit, a, b, product.part()),
             Name::Negation => library::negation(x, a, product.part()),
             Name::Product => library::product(x, y, a, b, product.part()),
             Name::Width => library::width(x, call.width, product.part()),

@@ -8,8 +8,7 @@ pub enum Name {
     Check,
     Pack,
     Unpack,
-    Sum,
-    Difference,
+    Combination,
     Negation,
     Scaling,
     Transpose,
@@ -22,12 +21,11 @@ pub enum Name {
     Product,
 }
 
-pub const NAMES: [Name; 15] = [
+pub const NAMES: [Name; 14] = [
     Name::Check,
     Name::Pack,
     Name::Unpack,
-    Name::Sum,
-    Name::Difference,
+    Name::Combination,
     Name::Negation,
     Name::Scaling,
     Name::Transpose,
@@ -56,8 +54,7 @@ impl Name {
             "check",
             "pack",
             "unpack",
-            "sum",
-            "difference",
+            "combination",
             "negation",
             "scaling",
             "transpose",
@@ -76,7 +73,7 @@ impl Name {
         match self {
             Name::Width | Name::Quote => &[],
             Name::Pack => &[Part::Cells],
-            Name::Sum | Name::Difference | Name::Opening | Name::Product => &[Part::A, Part::B],
+            Name::Combination | Name::Opening | Name::Product => &[Part::A, Part::B],
             Name::Turn => &[Part::A, Part::B, Part::Table, Part::Result],
             _ => &[Part::A],
         }
@@ -99,6 +96,10 @@ impl Name {
     /// Whether B is a factor: A's columns are B's rows, and the result is m by n.
     pub fn multiplies(self) -> bool {
         matches!(self, Name::Opening | Name::Turn | Name::Product)
+    }
+
+    pub fn has_digit(self) -> bool {
+        matches!(self, Name::Combination | Name::Scaling)
     }
 
     pub fn has_width(self) -> bool {
@@ -127,7 +128,7 @@ impl Name {
     pub fn numbers(self) -> &'static [u8] {
         match self {
             Name::Pack => &[0, 1, 4, 8],
-            Name::Sum | Name::Difference => &[0, 1, 2, 4, 5, 6],
+            Name::Combination => &[0, 1, 2, 4, 8, 5, 6],
             Name::Scaling => &[0, 1, 4, 8, 5, 6],
             Name::Width | Name::Quote => &[0, 1, 3],
             Name::Total => &[0, 1, 3, 4, 5, 6],

@@ -43,7 +43,7 @@ fn faults(name: Name) -> Vec<Fault> {
         all.push(Fault::Width);
     }
     all.extend(name.parts().into_iter().map(Fault::Length));
-    if matches!(name, Name::Pack | Name::Scaling) {
+    if name == Name::Pack || name.has_digit() {
         all.push(Fault::Digit);
     }
     for part in name.reads().iter().filter(|part| **part != Part::Cells) {
@@ -122,7 +122,7 @@ fn has_place((a, b): Sizes, fault: Fault) -> bool {
     }
 }
 
-/// Another count for B's rows, or for its columns in a sum: 0, a little other, or any.
+/// Another count for B's rows, or for its columns in a combination: 0, a little other, or any.
 fn misfit(random: &mut Random, name: Name, sizes: &mut Sizes) {
     let b = &mut sizes.1;
     let count = if name.multiplies() || random.once_in(2) { &mut b.0 } else { &mut b.1 };
@@ -147,10 +147,10 @@ fn cells(random: &mut Random, call: &mut Call, fault: Fault) {
     }
 }
 
-/// A scale above 2, or such digits in unpacked cells.
+/// A digit above 2, or such digits in unpacked cells.
 fn digit(random: &mut Random, call: &mut Call) {
     const ABOVE: [u8; 11] = [3, 3, 4, 5, 6, 127, 128, 129, 130, 254, 255];
-    if call.name == Name::Scaling {
+    if call.name.has_digit() {
         call.digit = random.of(&ABOVE);
         return;
     }
@@ -160,7 +160,7 @@ fn digit(random: &mut Random, call: &mut Call) {
     }
 }
 
-/// The `turn`-th call of a request whose cells are wrong, often in several buffers: each in turn is the first of them. A scale may be wrong too.
+/// The `turn`-th call of a request whose cells are wrong, often in several buffers: each in turn is the first of them. A digit may be wrong too.
 pub fn wrong_cells(random: &mut Random, name: Name, turn: usize) -> Call {
     let (width, sizes) = (width(random, name, turn), damaged(random, name));
     let mut call = made(random, name, sizes, width);
@@ -176,7 +176,7 @@ pub fn wrong_cells(random: &mut Random, name: Name, turn: usize) -> Call {
         };
         faults.iter().for_each(|fault| cells(random, &mut call, *fault));
     }
-    if name == Name::Scaling && random.once_in(4) {
+    if name.has_digit() && random.once_in(4) {
         digit(random, &mut call);
     }
     record(random, &mut call);

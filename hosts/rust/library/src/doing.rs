@@ -1,7 +1,7 @@
 //! What each request has to leave, by document 01: digits one by one, the schoolbook product, the list of row steps walked entry by entry.
 
 use crate::call::{Call, Name, Part, Written};
-use crate::digits::{list, product, walk, Digits, Step};
+use crate::digits::{combined, list, product, walk, Digits, Step};
 use crate::quotes::quote;
 
 /// The digits of one of an accepted call's matrices.
@@ -27,8 +27,7 @@ pub fn done(call: &Call) -> Written {
         Name::Check => {}
         Name::Pack => left.result = digits(call, Part::Cells).words(),
         Name::Unpack => left.cells = digits(call, Part::A).cells,
-        Name::Sum => left.result = pairs(call, |x, y| x + y),
-        Name::Difference => left.result = pairs(call, |x, y| x + 3 - y),
+        Name::Combination => left.result = combined(digits(call, Part::A), &digits(call, Part::B), call.digit.into()).words(),
         Name::Negation => left.result = singles(call, |x| 3 - x),
         Name::Scaling => left.result = singles(call, |x| call.digit * x),
         Name::Transpose => left.result = transposed(&digits(call, Part::A)).words(),
@@ -47,15 +46,6 @@ fn singles(call: &Call, f: impl Fn(u8) -> u8) -> Vec<u64> {
     let mut a = digits(call, Part::A);
     for x in a.cells.iter_mut() {
         *x = f(*x) % 3;
-    }
-    a.words()
-}
-
-fn pairs(call: &Call, f: impl Fn(u8, u8) -> u8) -> Vec<u64> {
-    let mut a = digits(call, Part::A);
-    let b = digits(call, Part::B);
-    for (x, y) in a.cells.iter_mut().zip(&b.cells) {
-        *x = f(*x, *y) % 3;
     }
     a.words()
 }

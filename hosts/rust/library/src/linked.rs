@@ -1,4 +1,4 @@
-//! The fifteen calls of the archive as safe functions. A slice carries pointer and length together, is never null, and one that is `&mut`
+//! The fourteen calls of the archive as safe functions. A slice carries pointer and length together, is never null, and one that is `&mut`
 //! shares no word with another. What comes back beside the answer is an array of its own behind a plain pointer.
 
 /// Rows and columns.
@@ -9,23 +9,12 @@ mod c {
         pub fn call_check(rows: u64, columns: u64, a: *const u64, a_words: usize) -> u64;
         pub fn call_pack(rows: u64, columns: u64, cells: *const u8, cells_bytes: usize, out: *mut u64, out_words: usize) -> u64;
         pub fn call_unpack(rows: u64, columns: u64, a: *const u64, a_words: usize, cells: *mut u8, cells_bytes: usize) -> u64;
-        pub fn call_sum(
+        pub fn call_combination(
             a_rows: u64,
             a_columns: u64,
             b_rows: u64,
             b_columns: u64,
-            a: *const u64,
-            a_words: usize,
-            b: *const u64,
-            b_words: usize,
-            out: *mut u64,
-            out_words: usize,
-        ) -> u64;
-        pub fn call_difference(
-            a_rows: u64,
-            a_columns: u64,
-            b_rows: u64,
-            b_columns: u64,
+            digit: u8,
             a: *const u64,
             a_words: usize,
             b: *const u64,
@@ -98,12 +87,8 @@ pub fn unpack(size: Size, a: &[u64], cells: &mut [u8]) -> u64 {
     unsafe { c::call_unpack(size.0, size.1, a.as_ptr(), a.len(), cells.as_mut_ptr(), cells.len()) }
 }
 
-pub fn sum(x: Size, y: Size, a: &[u64], b: &[u64], out: &mut [u64]) -> u64 {
-    unsafe { c::call_sum(x.0, x.1, y.0, y.1, a.as_ptr(), a.len(), b.as_ptr(), b.len(), out.as_mut_ptr(), out.len()) }
-}
-
-pub fn difference(x: Size, y: Size, a: &[u64], b: &[u64], out: &mut [u64]) -> u64 {
-    unsafe { c::call_difference(x.0, x.1, y.0, y.1, a.as_ptr(), a.len(), b.as_ptr(), b.len(), out.as_mut_ptr(), out.len()) }
+pub fn combination(x: Size, y: Size, digit: u8, a: &[u64], b: &[u64], out: &mut [u64]) -> u64 {
+    unsafe { c::call_combination(x.0, x.1, y.0, y.1, digit, a.as_ptr(), a.len(), b.as_ptr(), b.len(), out.as_mut_ptr(), out.len()) }
 }
 
 pub fn negation(size: Size, a: &[u64], out: &mut [u64]) -> u64 {

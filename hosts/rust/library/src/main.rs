@@ -1,4 +1,4 @@
-//! A Rust host of the library itself. It links the archive of the fifteen requests over words, wraps the calls safely, and compares every call
+//! A Rust host of the library itself. It links the archive of the fourteen requests over words, wraps the calls safely, and compares every call
 //! with an implementation of its own that shares no code with the library: the answer with its number and its place, what comes back beside it, and
 //! every buffer word for word, guard words about them too, refused or not.
 //!
@@ -51,13 +51,13 @@ const ROUND: [Name; 29] = [
     Name::Turn,
     Name::Check,
     Name::Product,
-    Name::Sum,
+    Name::Combination,
     Name::Opening,
     Name::Transpose,
     Name::Turn,
     Name::Scaling,
     Name::Product,
-    Name::Difference,
+    Name::Combination,
     Name::Pack,
     Name::Total,
     Name::Turn,
@@ -74,9 +74,9 @@ const ROUND: [Name; 29] = [
     Name::Scaling,
     Name::Quote,
     Name::Width,
-    Name::Sum,
+    Name::Combination,
     Name::Negation,
-    Name::Difference,
+    Name::Combination,
 ];
 
 /// Sizes of the witness: around the ends of words, and with a narrow last block at most widths.

@@ -13,7 +13,7 @@ pub fn refusals(call: &Call) -> Vec<Refusal> {
         (2, misfit(call)),
         (3, call.name.has_width() && call.meant().is_none()),
         (4, call.name.parts().iter().any(|part| call.length(*part).map_or(false, |length| length != call.found(*part)))),
-        (8, call.name == Name::Scaling && call.digit > 2),
+        (8, call.name.has_digit() && call.digit > 2),
     ];
     found.extend(tests.iter().filter(|(_, holds)| *holds).map(|(number, _)| Refusal::without_place(*number)));
     found.extend(digits_above(call));
@@ -28,7 +28,7 @@ pub fn refusals(call: &Call) -> Vec<Refusal> {
 
 fn misfit(call: &Call) -> bool {
     match call.name {
-        Name::Sum | Name::Difference => call.a_size != call.b_size,
+        Name::Combination => call.a_size != call.b_size,
         Name::Opening | Name::Product => call.a_size.1 != call.b_size.0,
         _ => false,
     }

@@ -1,4 +1,5 @@
 use mathlib.Core.Path.{sym, _∙_}
+use borrow.Author.Tests.{lt-ltb, le-ltb}
 use Rattle.cells.proofs.AnyLaws.{or-left}
 use Rattle.requests.specs.Sizes.{over}
 use Rattle.requests.specs.Answers.{first}
@@ -37,7 +38,25 @@ returns-4 c = rw (sym (c .before .before .before .before .before .before .before
 
 returns-5 : tie.Need-returns-5
 unfolding pairSizes first
-returns-5 c = rw (sym (c .before .before .before .before .before .before .before .either-over .ensures) ∙ c .before .before .before .before .before .before .if1 .left, sym (c .before .before .before .before .before .either-above .ensures) ∙ c .before .before .before .before .if2 .left, sym (c .before .before .before .unequal .ensures) ∙ c .before .before .if3 .left, sym (c .before .unfits .ensures) ∙ c .if4 .left)
+returns-5 c =
+    rw (
+      sym (c .before .before .before .before .before .before .before .before .either-over .ensures) ∙ c .before .before .before .before .before .before .before .if1 .left,
+      sym (c .before .before .before .before .before .before .either-above .ensures) ∙ c .before .before .before .before .before .if2 .left,
+      sym (c .before .before .before .before .unequal .ensures) ∙ c .before .before .before .if3 .left,
+      sym (c .before .before .unfits .ensures) ∙ c .before .if4 .left,
+      lt-ltb 2 (c .before .before .before .before .before .before .before .before .before .args .d) (c .if5 .taken),
+    )
+
+returns-6 : tie.Need-returns-6
+unfolding pairSizes first
+returns-6 c =
+    rw (
+      sym (c .before .before .before .before .before .before .before .before .either-over .ensures) ∙ c .before .before .before .before .before .before .before .if1 .left,
+      sym (c .before .before .before .before .before .before .either-above .ensures) ∙ c .before .before .before .before .before .if2 .left,
+      sym (c .before .before .before .before .unequal .ensures) ∙ c .before .before .before .if3 .left,
+      sym (c .before .before .unfits .ensures) ∙ c .before .if4 .left,
+      le-ltb 2 (c .before .before .before .before .before .before .before .before .before .args .d) (c .if5 .left),
+    )
 
 pub judged-spec : {M : Type 1} → statement M
-judged-spec = tie.close (tie.spec either-over-requires returns either-above-requires returns-2 unequal-requires returns-3 unfits-requires returns-4 returns-5)
+judged-spec = tie.close (tie.spec either-over-requires returns either-above-requires returns-2 unequal-requires returns-3 unfits-requires returns-4 returns-5 returns-6)

@@ -1,4 +1,5 @@
 use mathlib.Core.Path.{sym, _∙_}
+use borrow.Author.Tests.{lt-ltb, le-ltb}
 use Rattle.cells.proofs.AnyLaws.{or-left, or-right}
 use Rattle.requests.specs.Answers.{first}
 use Rattle.requests.specs.Sizes.{over}
@@ -29,18 +30,33 @@ returns-3 : tie.Need-returns-3
 unfolding pairTests first
 returns-3 c = rw (sym (c .before .before .before .before .before .either-over .ensures) ∙ c .before .before .before .before .if1 .left, sym (c .before .before .before .unequal .ensures) ∙ c .before .before .if2 .left, sym (c .before .unfits .ensures) ∙ c .if3 .taken)
 
-either-fault-requires : tie.Need-either-fault-requires
-either-fault-requires c κs =
-    let over-none = sym (c .before .before .before .before .before .either-over .ensures) ∙ c .before .before .before .before .if1 .left in
-    let unfits-none = sym (c .before .unfits .ensures) ∙ c .if3 .left in
-    let x = c .before .before .before .before .before .before .before .before .args .x in
-    let y = c .before .before .before .before .before .before .before .before .args .y in
-    (or-left (over x) (over y) over-none, or-right (over x) (over y) over-none, fits-a x y _ _ _ unfits-none, fits-b x y _ _ _ unfits-none)
-
 returns-4 : tie.Need-returns-4
 unfolding pairTests first
 returns-4 c =
-    rw (sym (c .before .before .before .before .before .before .either-over .ensures) ∙ c .before .before .before .before .before .if1 .left, sym (c .before .before .before .before .unequal .ensures) ∙ c .before .before .before .if2 .left, sym (c .before .before .unfits .ensures) ∙ c .before .if3 .left)
+    rw (
+      sym (c .before .before .before .before .before .before .either-over .ensures) ∙ c .before .before .before .before .before .if1 .left,
+      sym (c .before .before .before .before .unequal .ensures) ∙ c .before .before .before .if2 .left,
+      sym (c .before .before .unfits .ensures) ∙ c .before .if3 .left,
+      lt-ltb 2 (c .before .before .before .before .before .before .before .before .before .args .d) (c .if4 .taken),
+    )
+
+either-fault-requires : tie.Need-either-fault-requires
+either-fault-requires c κs =
+    let over-none = sym (c .before .before .before .before .before .before .either-over .ensures) ∙ c .before .before .before .before .before .if1 .left in
+    let unfits-none = sym (c .before .before .unfits .ensures) ∙ c .before .if3 .left in
+    let x = c .before .before .before .before .before .before .before .before .before .args .x in
+    let y = c .before .before .before .before .before .before .before .before .before .args .y in
+    (or-left (over x) (over y) over-none, or-right (over x) (over y) over-none, fits-a x y _ _ _ unfits-none, fits-b x y _ _ _ unfits-none)
+
+returns-5 : tie.Need-returns-5
+unfolding pairTests first
+returns-5 c =
+    rw (
+      sym (c .before .before .before .before .before .before .before .either-over .ensures) ∙ c .before .before .before .before .before .before .if1 .left,
+      sym (c .before .before .before .before .before .unequal .ensures) ∙ c .before .before .before .before .if2 .left,
+      sym (c .before .before .before .unfits .ensures) ∙ c .before .before .if3 .left,
+      le-ltb 2 (c .before .before .before .before .before .before .before .before .before .before .args .d) (c .before .if4 .left),
+    )
     (c .either-fault .ensures)
 
 pub judged-spec : {M : Type 1} → statement M
@@ -53,5 +69,6 @@ judged-spec =
     returns-2
     unfits-requires
     returns-3
+    returns-4
     either-fault-requires
-    returns-4)
+    returns-5)

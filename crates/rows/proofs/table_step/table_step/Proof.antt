@@ -1,8 +1,6 @@
-use mathlib.Core.Logic.{inr}
-use Prim.Native.Nat.{_+_, _-_, _*_}
-use Rattle.cells.specs.Digit.{add3}
-use Rattle.rows.proofs.RowLaws.{made-count, fewer}
-use Rattle.rows.proofs.PartLaws.{part-length, part-readable, lent}
+use Prim.Native.Nat.{_-_}
+use Rattle.cells.specs.Digit.{combine}
+use Rattle.rows.proofs.PartLaws.{lent, returned, apart}
 use borrow.Author.Needs.{needs}
 use native.Mathlib.Omega.{arith}
 use Rattle.rows.proofs.table_step.table_step.Statement.{statement}
@@ -17,34 +15,26 @@ add-e c = search needs
 sub-at : tie.Need-sub-at
 sub-at c = search needs
 
-mul-add-one : tie.Need-mul-add-one
-mul-add-one c = search needs
+mul-one : tie.Need-mul-one
+mul-one c = search needs
 
-sub-add-one : tie.Need-sub-add-one
-sub-add-one c = search needs
+sub-one : tie.Need-sub-one
+sub-one c = search needs
 
-part-add-one-start : tie.Need-part-add-one-start
-part-add-one-start c = search needs
+part-one-start : tie.Need-part-one-start
+part-one-start c = search needs
 
-part-add-one-end : tie.Need-part-add-one-end
-part-add-one-end c = search needs
+part-one-end : tie.Need-part-one-end
+part-one-end c = search needs
 
-add-one-requires : tie.Need-add-one-requires
-add-one-requires c κs =
-    fewer (c .before .before .before .before .args .q) (c .before .before .before .before .args .q) 1 (c .before .before .before .before .args .x - c .before .before .before .before .args .y) 0 (c .before .before .before .before .args .z) _ _ (omega arith) (
-    record {
-      fits = omega arith;
-      room = omega (arith, part-length (c .before .before .before .before .args .y) (c .before .before .before .before .args .x + 2 * c .before .before .before .before .args .q) (c .before .before .before .before .args .t .now) (omega arith) (omega arith));
-      first = part-readable (c .before .before .before .before .args .y) (c .before .before .before .before .args .x + 2 * c .before .before .before .before .args .q) (c .before .before .before .before .args .t .now) (omega arith) (omega arith) (c .before .before .before .before .args .y) 0 (c .before .before .before .before .args .q) (omega arith) (omega arith) (c .before .before .before .before .pre .2);
-      second = c .before .before .before .before .pre .3;
-      apart = inr (omega arith);
-    })
+one-requires : tie.Need-one-requires
+one-requires c κs = let s = c .before .before .before .before in (c .before .if1 .taken, lent (apart (s .pre .0) (s .pre .1) (s .pre .2) (s .pre .3)) (s .args .x - s .args .y) (omega arith), omega arith)
 
 same-length : tie.Need-same-length
 same-length c = search needs
 
 returns : tie.Need-returns
-returns c = lent add3 (c .before .before .before .before .before .before .before .args .y) (c .before .before .before .before .before .before .before .args .x + 2 * c .before .before .before .before .before .before .before .args .q) (c .before .before .before .before .before .before .before .args .x) (c .before .before .before .before .before .before .before .args .x - c .before .before .before .before .before .before .before .args .y) (c .before .before .before .before .before .before .before .args .y) 0 (c .before .before .before .before .before .before .before .args .q) (c .before .before .before .before .before .before .before .args .t .now) (c .before .before .before .before .before .before .before .args .b .now) (c .before .before .before .before .before .before .before .args .z) _ (omega arith) (omega arith) (omega arith) (omega arith) (omega arith) (omega arith) (made-count _ (c .before .before .before .before .before .before .before .args .x - c .before .before .before .before .before .before .before .args .y) (c .before .before .before .before .before .before .before .args .q) 1 (c .before .before .before .before .before .before .before .args .q) _ _ (omega arith) (c .before .before .add-one .ensures))
+returns c = let s = c .before .before .before .before .before .before .before in returned (apart (s .pre .0) (s .pre .1) (s .pre .2) (s .pre .3)) (s .args .x - s .args .y) (omega arith) (combine 1) (c .before .before .one .ensures)
 
 mul-add-row : tie.Need-mul-add-row
 mul-add-row c = search needs
@@ -59,20 +49,13 @@ part-add-row-end : tie.Need-part-add-row-end
 part-add-row-end c = search needs
 
 add-row-requires : tie.Need-add-row-requires
-add-row-requires c κs =
-    record {
-      fits = omega arith;
-      room = omega (arith, part-length (c .before .before .before .before .args .y) (c .before .before .before .before .args .x + 2 * c .before .before .before .before .args .q) (c .before .before .before .before .args .t .now) (omega arith) (omega arith));
-      first = part-readable (c .before .before .before .before .args .y) (c .before .before .before .before .args .x + 2 * c .before .before .before .before .args .q) (c .before .before .before .before .args .t .now) (omega arith) (omega arith) (c .before .before .before .before .args .y) 0 (c .before .before .before .before .args .q) (omega arith) (omega arith) (c .before .before .before .before .pre .2);
-      second = c .before .before .before .before .pre .3;
-      apart = inr (omega arith);
-    }
+add-row-requires c κs = let s = c .before .before .before .before in lent (apart (s .pre .0) (s .pre .1) (s .pre .2) (s .pre .3)) (s .args .x - s .args .y) (omega arith)
 
 same-length-2 : tie.Need-same-length-2
 same-length-2 c = search needs
 
 returns-2 : tie.Need-returns-2
-returns-2 c = lent add3 (c .before .before .before .before .before .before .before .args .y) (c .before .before .before .before .before .before .before .args .x + 2 * c .before .before .before .before .before .before .before .args .q) (c .before .before .before .before .before .before .before .args .x) (c .before .before .before .before .before .before .before .args .x - c .before .before .before .before .before .before .before .args .y) (c .before .before .before .before .before .before .before .args .y) 0 (c .before .before .before .before .before .before .before .args .q) (c .before .before .before .before .before .before .before .args .t .now) (c .before .before .before .before .before .before .before .args .b .now) (c .before .before .before .before .before .before .before .args .z) _ (omega arith) (omega arith) (omega arith) (omega arith) (omega arith) (omega arith) (c .before .before .add-row .ensures)
+returns-2 c = let s = c .before .before .before .before .before .before .before in returned (apart (s .pre .0) (s .pre .1) (s .pre .2) (s .pre .3)) (s .args .x - s .args .y) (omega arith) (combine 1) (c .before .before .add-row .ensures)
 
 pub table-step-spec : {M : Type 1} → statement M
 table-step-spec =
@@ -81,11 +64,11 @@ table-step-spec =
     mul-e
     add-e
     sub-at
-    mul-add-one
-    sub-add-one
-    part-add-one-start
-    part-add-one-end
-    add-one-requires
+    mul-one
+    sub-one
+    part-one-start
+    part-one-end
+    one-requires
     same-length
     returns
     mul-add-row
