@@ -1,6 +1,6 @@
 // x plus a digit times y, at each place: the sum by the digit 1, the difference by 2. The digit's bits are spread over all 64 places, so that it
 // decides no branch; where it is known, the back end drops the masks.
-ghost use Prim.Native.Nat.{ℕ, _<_};
+ghost use Prim.Native.Nat.{_<_};
 ghost use Rattle.cells.specs.Digit.{mul3, combine};
 ghost use Rattle.cells.specs.Pair.{Good, at, Is};
 use crate::Cells;

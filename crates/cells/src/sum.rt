@@ -12,12 +12,13 @@ pub fn sum(x: Cells, y: Cells) -> Cells
     let x_plus = x.unit ^ x.sign;
     let y_plus = y.unit ^ y.sign;
     let x_minus = x.sign;
+    let y_minus = y.sign;
     let x_zero = !x.unit;
     let y_zero = !y.unit;
     // 0 + 0, 2 + 1 and 1 + 2
     let zero = !(x_zero ^ y_zero) & !(x_minus ^ y_plus);
-    // 1 + 1, 2 + 0 and 0 + 2; what is left, 0 + 1, 1 + 0 and 2 + 2, is plus
-    let minus = !(x_plus ^ y_plus) & !(x_minus ^ y_zero);
+    // 0 + 2, 2 + 0 and 1 + 1; what is left, 0 + 1, 1 + 0 and 2 + 2, is plus
+    let minus = !(x_zero ^ y_minus) & !(x_plus ^ y_plus);
     Cells {
         unit: !zero,
         sign: minus,

@@ -1,6 +1,7 @@
-// The first n pairs of a row are made in place, where n is known: the pairs at x of t become those at y of t plus d times those at z of b. Straight-line
-// bodies load two words of a plane before they store: the back end makes vector code of them with no test of overlap. It puts them where they are
-// called, and where the digit is known there, its masks are gone.
+// The first n pairs of a row are made in place, a function for each n up to 4: the pairs at x of t become those at y of t plus d times those at z of b.
+// Straight-line bodies load two words of a plane before they store: the back end makes vector code of them with no test of overlap. It puts them where
+// they are called, and where the digit is known there, its masks are gone. What is handed in as n stands in the statements alone: so a caller that has
+// tested it has nothing more to show.
 ghost use mathlib.Core.Path.{_≡_};
 ghost use Prim.Native.Nat.{_<_};
 ghost use Rattle.cells.specs.Digit.{combine};

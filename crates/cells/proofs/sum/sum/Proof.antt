@@ -10,7 +10,7 @@ abbrev zero : Form
 zero = ! (Zero 0 ⊕ Zero 1) & ! (Minus 0 ⊕ Plus 1)
 
 abbrev minus : Form
-minus = ! (Plus 0 ⊕ Plus 1) & ! (Minus 0 ⊕ Zero 1)
+minus = ! (Zero 0 ⊕ Minus 1) & ! (Plus 0 ⊕ Plus 1)
 
 returns : tie.Need-returns
 unfolding combine
