@@ -12,7 +12,7 @@ use rows::add::add;
 use rows::subtract::subtract;
 
 // d times table row x is added to row i of the product, where d is 1 or 2: no step where x is 0. The callers know the digit, so that nothing is left of
-// its test.
+// its test in a whole product.
 pub fn row_step(
     product: &mut [u64],
     table: &[u64],
