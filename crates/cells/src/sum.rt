@@ -1,6 +1,7 @@
 // The sum of the digits at each place, by where each operand is plus (1), minus (2) or zero. Read `!(a ^ b)` as: a just where b.
 // These are not the article's six operations (its 4.1), whose two result bits are printed exchanged: its r0, the unit, is what `minus` is here, and
-// its r1, the sign, what `!zero` is here; so 1 + 0 would be a sign without unit. The back end makes six operations of this body too.
+// its r1, the sign, what `!zero` is here; so 1 + 0 would be a sign without unit. The back end makes seven of this body, and
+// copies no register, where it copies one for the article's six.
 ghost use Rattle.cells.specs.Digit.{combine};
 ghost use Rattle.cells.specs.Pair.{Good, at, Is};
 use crate::Cells;
