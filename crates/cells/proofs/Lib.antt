@@ -11,6 +11,5 @@ pub mod AnyLaws
 pub mod LeastLaws
 pub mod FaultLaws
 pub mod SumLaws
-pub mod LanesLaws
 pub mod CountLaws
 pub mod LowestLaws

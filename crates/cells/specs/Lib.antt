@@ -6,4 +6,3 @@ pub mod Any
 pub mod Fault
 pub mod Counts
 pub mod Lowest
-pub mod Lanes

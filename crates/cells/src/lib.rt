@@ -2,7 +2,6 @@
 pub mod combination;
 pub mod counts;
 pub mod fault;
-pub mod lanes;
 pub mod lowest;
 pub mod mask;
 pub mod negation;

@@ -31,13 +31,13 @@ unfolding unfit_bytes
 fit_bytes s n h = eqb-true n (8 * words s.rows s.columns) (not-false (eqb n (8 * words s.rows s.columns)) h)
 
 -- a row of at most 64 columns has at most two words
-pub two_words_lem : (c : ℕ) → c ≤ 64 → wide c ≤ 2
+pub two_words : (c : ℕ) → c ≤ 64 → wide c ≤ 2
 unfolding wide planes
-two_words_lem c h = omega arith
+two_words c h = omega arith
 
 pub words_small : (r c k : ℕ) → r ≤ k → c ≤ 64 → words r c ≤ k * 2
 unfolding words
-words_small r c k hr hc = mul-le-mul {n₂ = k} {m₂ = 2} hr (two_words_lem c hc)
+words_small r c k hr hc = mul-le-mul {n₂ = k} {m₂ = 2} hr (two_words c hc)
 
 -- as many words as bytes say
 pub fits_words : (s : Size) (n k : ℕ) → unfit_bytes s n ≡ false → n ≡ 8 * k → unfit s k ≡ false

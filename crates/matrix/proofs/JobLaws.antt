@@ -266,8 +266,8 @@ pub turn_done : (job : Job) (a b t p t' p' : List ℕ) (budget n : ℕ) (at : St
     → ◌≡◌ {A = Job × (ℕ × (Bool × (List ℕ × List ℕ)))} (on_job job (job.done + n), (n, (eqb (job.done + n) at.total, (t', p')))) (turned_of job a b t p budget)
 unfolding turned_of turn made total
 turn_done job a b t p t' p' budget n at S en R =
-    let em : n ≡ made_of job a budget = en ∙ ap (λ (c : ℕ). min budget (c - job.done)) S.total-is in
+    let em : n ≡ made_of job a budget = en ∙ ap (λ (c : ℕ). min budget (c - job.done)) S.total_is in
     let seam = from_place job.m job.l job.width (cell job.l a) at.block at.before job.done n S.within S.before_is S.begun in
     let R' =
     subst (λ (ps : List Step). Ran job.width job.m job.n (cell job.n b) ps t p t' p') (sym seam ∙ ap (λ (c : ℕ). due job.done c (steps_of job a)) em) R in
-    λ i. (on_job job (job.done + em i), (em i, (eqb (job.done + em i) (S.total-is i), (R'.table i, R'.product i))))
+    λ i. (on_job job (job.done + em i), (em i, (eqb (job.done + em i) (S.total_is i), (R'.table i, R'.product i))))

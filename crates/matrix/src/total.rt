@@ -36,18 +36,9 @@ pub fn total(x: Size, width: u64, a: &[u64]) -> Counted
         };
     }
     let k = meant(x, width) as usize;
-    // No list has so many steps: the walk reaches its end.
-    let at = place(
-        a,
-        x.rows as usize,
-        x.columns as usize,
-        k,
-        0,
-        0,
-        18446744073709551615,
-    );
+    let at = place(a, x.rows as usize, x.columns as usize, k, 0);
     Counted {
         answer: Answer::Done,
-        steps: at.reach,
+        steps: at.total,
     }
 }

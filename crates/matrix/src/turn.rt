@@ -11,8 +11,7 @@ use super::misfit::misfit;
 use requests::faults::either_fault;
 use requests::sizes::either_over;
 use requests::{Answer, Buffer, Reason, Size, word};
-use walk::blocks::blocks_part;
-use walk::ends::ends;
+use walk::blocks::{blocks_part, least};
 use walk::place::{Standing, place};
 use walk::{Left, Shape};
 
@@ -80,9 +79,10 @@ fn accepted(
     at: Standing,
     budget: u32,
 ) -> Turned
-    requires { (first (found_tests job a.now b.now table.old product.old) ≡ 0) × StandsAt job.m job.l job.width (cell job.l a.now) job.done at × (job.done ≤ at.reach) }
+    requires { (first (found_tests job a.now b.now table.old product.old) ≡ 0) × StandsAt job.m job.l job.width (cell job.l a.now) job.done at × (job.done ≤ at.total) }
     ensures { turned result table.new product.new ≡ (0, turned_of job a.now b.now table.old product.old budget) }
 {
+    let made = least(budget as u64, at.total - job.done);
     let shape = Shape {
         m: job.m as usize,
         l: job.l as usize,
@@ -91,14 +91,12 @@ fn accepted(
     };
     let left = Left {
         skip: job.done - at.before,
-        budget: budget as u64,
+        budget: made,
     };
-    let from = at.block as usize;
-    let stop = blocks_part(table, product, a, b, shape, from, left);
-    let made = left.budget - stop.budget;
+    blocks_part(table, product, a, b, shape, at.block as usize, left);
     let mut next = job;
     next.done = job.done + made;
-    let finished = ends(a, shape, from, at.before, stop, next.done);
+    let finished = next.done == at.total;
     Turned::Done {
         job: next,
         made: made,
@@ -125,11 +123,9 @@ pub fn turn(
         job.m as usize,
         job.l as usize,
         job.width as usize,
-        0,
-        0,
         job.done,
     );
-    if at.reach < job.done {
+    if job.done > at.total {
         return Turned::Refused(Reason::StepsExceed);
     }
     accepted(job, a, b, table, product, at, budget)

@@ -5,4 +5,3 @@ pub mod FaultLaws
 pub mod TallyLaws
 pub mod BlockLaws
 pub mod MatrixLaws
-pub mod WideLaws

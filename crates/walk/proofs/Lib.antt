@@ -4,4 +4,3 @@ pub mod PutLaws
 pub mod RanLaws
 pub mod CountLaws
 pub mod PieceLaws
-pub mod LaneLaws

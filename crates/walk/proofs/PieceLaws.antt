@@ -3,9 +3,8 @@ use mathlib.Core.Path.{◌≡◌, refl, sym, ap, ap₂, subst, ◌∙◌}
 use mathlib.Core.List.{List, [], ◌∷◌, ◌++◌, append-nil}
 use Prim.Native.Nat.{ℕ, zero, suc, ◌+◌, ◌-◌, ◌*◌, ◌^◌, ◌≤◌, ◌<◌, min}
 use native.Mathlib.Numerals.{add-one}
-use native.Mathlib.Decide.{dec_lt}
 use native.Mathlib.Omega.{arith}
-use lib.Pow.{pow_pos, pow_mono}
+use lib.Pow.{pow_pos}
 use lib.ListN.{length, drop_of_length-le}
 use Rattle.cells.specs.Bit.{bit}
 use Rattle.cells.specs.Digit.{Matrix, combine}
@@ -14,20 +13,16 @@ use Rattle.buffers.specs.Buffer.{planes, Legal, Words}
 use Rattle.rows.specs.Row.{of2, Made}
 use Rattle.steps.specs.Step.{Step, table_step, row_step, lowest_bit, cleared}
 use Rattle.steps.specs.StepList.{unless0, each, table_steps, row_steps, block_steps, blocks, block_width, block_at, steps}
-use Rattle.steps.specs.Count.{total, block_count, count_at}
+use Rattle.steps.specs.Count.{count_at}
 use Rattle.cells.specs.Counts.{sum}
 use Rattle.steps.specs.Turn.{due}
 use Rattle.steps.proofs.Fits.{AllFit, fit_take, fit_drop, fit_each, table_step_fits, row_fits, block_fits, fit_wider}
-use Rattle.steps.proofs.Counts.{length_block, total_counts}
-use Rattle.steps.proofs.Loops.{each_split, each_next, each_end, length_each, width_within, width_pos, width_le}
+use Rattle.steps.proofs.Counts.{length_block}
+use Rattle.steps.proofs.Loops.{each_split, each_next, each_end, length_each, width_within, width_le}
 use Rattle.steps.proofs.LowestBit.{lowest_only, cleared_only}
-use Rattle.cells.proofs.SumLaws.{sum_more, sum_last, sum_mono, sum_ext}
+use Rattle.cells.proofs.SumLaws.{sum_ext}
 use Rattle.walk.specs.declared.Left.{Left}
-use Rattle.walk.specs.declared.blocks.Stop.{Stop}
 use Rattle.walk.specs.Spent.{Spent}
-use Rattle.walk.specs.Stopped.{Stopped}
-use Rattle.walk.specs.declared.place.Standing.{Standing}
-use Rattle.walk.specs.Place.{Stands}
 use Rattle.walk.specs.Ran.{Ran}
 use Rattle.walk.proofs.DueLaws.{due_nothing, due_nil, due_skipped, due_made, due_more, spent_none, due_after, spent_append, table_length, table_due}
 use Rattle.walk.proofs.RanLaws.{ran_none, ran_more, ran_row_step}
@@ -194,61 +189,3 @@ block_whole k m n l A B s w top narrow e t p t₁ p₁ R T =
 -- the blocks of the list fit
 pub blocks_fit : (m l k c : ℕ) (A : Matrix) → 0 < k → c < blocks l k → AllFit m l k (block_at m l k A c)
 blocks_fit m l k c A pos h = fit_wider m l (block_width l k c) k (width_le l k c) (block_steps m A (c * k) (block_width l k c)) (block_fits m l A (c * k) (block_width l k c) (width_within l k c pos h))
-
--- ---- where a walk over the blocks stops
-
-module _ (left rest : Left) (c d end : ℕ) (f : ℕ → List Step) (from : c ≤ d) (S : Spent left (length (each c d f)) rest) where
-  -- the budget is spent
-  pub stop_spent : d ≤ end → rest.budget ≡ 0 → Stopped left c end f (record { block = d; budget = 0 })
-  stop_spent to z = record { from = from; to = to; budget = sym z ∙ S.budget; spent = λ _. refl }
-
-  -- no block is left
-  pub stop_end : (e : ℕ) → d ≡ e → e ≡ end → Stopped left c end f (record { block = e; budget = rest.budget })
-  stop_end e ed ee = record { from = omega arith; to = omega arith; budget = rw ed at S.budget; spent = λ h. absurd (omega arith) }
-
--- ---- what a turn makes, without the total
-
--- the steps of the blocks from c up to d - 1
-pub each_counts : (m l k c d : ℕ) (A : Matrix) → c ≤ d → sum 0 c (count_at m l k A) + length (each c d (block_at m l k A)) ≡ sum 0 d (count_at m l k A)
-each_counts m l k c d A h =
-    let e : c + (d - c) ≡ d = omega arith in
-    let long : length (each c d (block_at m l k A)) ≡ sum c (d - c) (count_at m l k A) =
-    length_each (block_at m l k A) c d ∙ sum_ext _ _ (d - c) c (λ b _ _. length_block m A (b * k) (block_width l k b)) in
-    ap (λ (n : ℕ). sum 0 c (count_at m l k A) + n) long ∙ sym (sum_more (count_at m l k A) c (d - c)) ∙ ap (λ (n : ℕ). sum 0 n (count_at m l k A)) e
-
--- a block has at least one table step
-pub count_some : (m l k b : ℕ) (A : Matrix) → 0 < k → b < blocks l k → 0 < count_at m l k A b
-unfolding block_count
-count_some m l k b A pos h =
-    let two : 2 ^ 1 ≤ 2 ^ block_width l k b = pow_mono (width_pos l k b pos h) in
-    omega arith
-
-module _ (m l k : ℕ) (A : Matrix) (done budget : ℕ) (at : Standing) (stop : Stop) (S : Stands m l k A done at) (le : done ≤ total m l k A)
-    (T : Stopped (record { skip = done - at.before; budget = budget }) at.block (blocks l k) (block_at m l k A) stop) where
-  abbrev gone : ℕ
-  gone = length (each at.block stop.block (block_at m l k A))
-
-  reached_stop : at.before + gone ≡ sum 0 stop.block (count_at m l k A)
-  reached_stop = ap (λ (n : ℕ). n + gone) S.before ∙ each_counts m l k at.block stop.block A T.from
-
-  stop_within : at.before + gone ≤ total m l k A
-  stop_within = omega (arith, reached_stop, sum_mono (count_at m l k A) stop.block (blocks l k) T.to, total_counts m l k A)
-
-  -- as many steps as the budget allows, or until the list ends
-  pub stop_made : budget - stop.budget ≡ min budget (total m l k A - done)
-  stop_made = go (dec_lt stop.block (blocks l k))
-    where
-      go : Dec (stop.block < blocks l k) → budget - stop.budget ≡ min budget (total m l k A - done)
-      go (yes h) = omega (arith, T.spent h, T.budget, stop_within, S.reached)
-      go (no h) =
-          let e : stop.block ≡ blocks l k = omega (arith, T.to) in
-          let all : at.before + gone ≡ total m l k A = reached_stop ∙ ap (λ (n : ℕ). sum 0 n (count_at m l k A)) e ∙ sym (total_counts m l k A) in
-          omega (arith, T.budget, S.reached)
-
-  -- where a block is left, a step is
-  pub stop_more : 0 < k → stop.block < blocks l k → done + (budget - stop.budget) < total m l k A
-  stop_more pos h =
-      let far : at.before + gone < total m l k A =
-      omega (arith, reached_stop, sum_last (count_at m l k A) stop.block, count_some m l k stop.block A pos h, sum_mono (count_at m l k A) (suc stop.block) (blocks l k) (omega arith), total_counts m l k A) in
-      let first : done < total m l k A = S.more (omega (arith, T.from)) in
-      omega (arith, T.spent h, T.budget, S.reached)

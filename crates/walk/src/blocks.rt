@@ -5,7 +5,6 @@ ghost use Rattle.steps.specs.StepList.{each, blocks, block_at};
 ghost use Rattle.steps.specs.Count.{count_at};
 ghost use Rattle.steps.specs.Turn.{due};
 ghost use Rattle.walk.specs.Spent.{Spent};
-ghost use Rattle.walk.specs.Stopped.{Stopped};
 ghost use Rattle.walk.specs.Ran.{Ran};
 ghost use Rattle.walk.specs.Shape.{Within};
 
@@ -13,13 +12,6 @@ use super::place::{blocks, width};
 use super::rows_part::rows_part;
 use super::table_part::table_part;
 use crate::{Left, Shape};
-
-// Where a walk over the blocks stopped: the first block that it did not look at, and what is left of the budget.
-#[derive(Drop)]
-pub struct Stop {
-    pub block: usize,
-    pub budget: u64,
-}
 
 // The smaller of two numbers.
 pub fn least(a: u64, b: u64) -> u64
@@ -56,7 +48,7 @@ fn block_part(
     rows_part(product, table, a, shape, s, w, rest)
 }
 
-// The steps that are due from block c on, in which they begin: those to skip are fewer than its own. No block is looked at once the budget is spent.
+// The steps that are due from block c on, in which they begin: those to skip are fewer than its own.
 pub fn blocks_part(
     table: &mut [u64],
     product: &mut [u64],
@@ -65,25 +57,18 @@ pub fn blocks_part(
     shape: Shape,
     c: usize,
     left: Left,
-) -> Stop
+)
     requires { Within shape × Legal (2 ^ shape.width) shape.n table.old × Legal shape.m shape.n product.old × Legal shape.m shape.l a.now × Legal shape.l shape.n b.now × (c ≤ blocks shape.l shape.width) × (c < blocks shape.l shape.width → left.skip < count_at shape.m shape.l shape.width (cell shape.l a.now) c) }
-    ensures { Stopped left c (blocks shape.l shape.width) (block_at shape.m shape.l shape.width (cell shape.l a.now)) result × Ran shape.width shape.m shape.n (cell shape.n b.now) (due left.skip left.budget (each c (blocks shape.l shape.width) (block_at shape.m shape.l shape.width (cell shape.l a.now)))) table.old product.old table.new product.new }
+    ensures { Ran shape.width shape.m shape.n (cell shape.n b.now) (due left.skip left.budget (each c (blocks shape.l shape.width) (block_at shape.m shape.l shape.width (cell shape.l a.now)))) table.old product.old table.new product.new }
 {
     let end = blocks(shape.l, shape.width);
     let mut rest = left;
     let mut d = c;
     while d < end {
         if rest.budget == 0 {
-            return Stop {
-                block: d,
-                budget: 0,
-            };
+            return;
         }
         rest = block_part(table, product, a, b, shape, d, rest);
         d += 1;
-    }
-    Stop {
-        block: end,
-        budget: rest.budget,
     }
 }

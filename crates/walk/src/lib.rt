@@ -1,8 +1,6 @@
 // Walks the list of row steps over buffers: counts it, finds a place in it by counting, and carries out steps.
 pub mod blocks;
 pub mod count;
-pub mod ends;
-mod many;
 mod piece;
 pub mod place;
 mod row_step;

@@ -34,7 +34,7 @@ place-requires c κs =
 
 returns-2 : tie.Need-returns-2
 unfolding total_means
-returns-2 c = finished _ _ _ _ (sym c.before.before.before.before.judged.ensures ∙ sym c.before.before.before.word.ensures ∙ c.before.before.if1.false) (c.place.ensures.total-is ∙ ap (λ (k : ℕ). total c.before.before.before.before.before.before.args.x.rows c.before.before.before.before.before.before.args.x.columns k (cell c.before.before.before.before.before.before.args.x.columns c.before.before.before.before.before.before.args.a.now)) c.before.meant.ensures)
+returns-2 c = finished _ _ _ _ (sym c.before.before.before.before.judged.ensures ∙ sym c.before.before.before.word.ensures ∙ c.before.before.if1.false) (c.place.ensures.total_is ∙ ap (λ (k : ℕ). total c.before.before.before.before.before.before.args.x.rows c.before.before.before.before.before.before.args.x.columns k (cell c.before.before.before.before.before.before.args.x.columns c.before.before.before.before.before.before.args.a.now)) c.before.meant.ensures)
 
 pub total-spec : {M : Type 1} → statement M
 total-spec =

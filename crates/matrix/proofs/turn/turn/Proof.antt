@@ -47,7 +47,7 @@ returns-2 : tie.Need-returns-2
 unfolding turn_means
 returns-2 c =
     let s = c.before.before.before.before.before.before.before.before.before.before.before.before.before in
-    let total = c.before.before.before.place.ensures.total-is in
+    let total = c.before.before.before.place.ensures.total_is in
     refused _ _ _ 7 (λ z. omega arith) (turn_exceeds s.args.job s.args.a.now s.args.b.now s.args.table.now s.args.product.now (sym c.before.before.before.before.before.before.judged.ensures ∙ ap word c.before.before.before.before.enum_told.given.1) (rw total at c.if1.true))
 
 accepted-requires : tie.Need-accepted-requires
@@ -63,7 +63,7 @@ returns-3 : tie.Need-returns-3
 unfolding turn_means
 returns-3 c =
     let s = c.before.before.before.before.before.before.before.before.before.before.before.before.before.before.before.before.before.before.before.before in
-    let total = c.before.before.before.before.before.before.before.before.before.before.place.ensures.total-is in
+    let total = c.before.before.before.before.before.before.before.before.before.before.place.ensures.total_is in
     let done = c.before.before.before.before.accepted.ensures in
     done
     ∙ (finished _ _ _ _ (turn_none s.args.job s.args.a.now s.args.b.now s.args.table.now s.args.product.now (sym c.before.before.before.before.before.before.before.before.before.before.before.before.before.judged.ensures ∙ ap word c.before.before.before.before.before.before.before.before.before.before.before.enum_told.given.1) (rw total at c.before.before.before.before.before.before.before.if1.false)) refl)

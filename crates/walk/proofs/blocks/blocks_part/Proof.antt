@@ -10,7 +10,7 @@ use Rattle.steps.proofs.Loops.{each_end, each_split}
 use Rattle.walk.specs.Spent.{Spent}
 use Rattle.walk.specs.Ran.{Ran}
 use Rattle.walk.proofs.DueLaws.{due_nil, due_nothing, due_after, spent_none, spent_append}
-use Rattle.walk.proofs.PieceLaws.{each_last, joined, blocks_fit, stop_spent, stop_end}
+use Rattle.walk.proofs.PieceLaws.{each_last, joined, blocks_fit}
 use Rattle.walk.proofs.RanLaws.{ran_none, ran_table, ran_product}
 use native.Mathlib.Omega.{arith}
 use Rattle.walk.proofs.blocks.blocks_part.Statement.{statement}
@@ -35,15 +35,13 @@ same-length-2 : tie.Need-same-length-2 invariant-loop decreases-loop
 same-length-2 c = c.before.before.before.loop.invariant.5
 
 returns : tie.Need-returns invariant-loop decreases-loop
-returns c = (
-  stop_spent c.before.before.before.before.before.before.before.before.before.args.left c.before.before.before.loop.rest c.before.before.before.before.before.before.before.before.before.args.c c.before.before.before.loop.d (blocks c.before.before.before.before.before.before.before.before.before.args.shape.l c.before.before.before.before.before.before.before.before.before.args.shape.width) (block_at c.before.before.before.before.before.before.before.before.before.args.shape.m c.before.before.before.before.before.before.before.before.before.args.shape.l c.before.before.before.before.before.before.before.before.before.args.shape.width (cell c.before.before.before.before.before.before.before.before.before.args.shape.l c.before.before.before.before.before.before.before.before.before.args.a.now)) c.before.before.before.loop.invariant.0 c.before.before.before.loop.invariant.2 (omega (arith, c.before.before.before.before.blocks2.ensures)) c.if1.true,
-  subst (λ (ps : List Step). Ran c.before.before.before.before.before.before.before.before.before.args.shape.width c.before.before.before.before.before.before.before.before.before.args.shape.m c.before.before.before.before.before.before.before.before.before.args.shape.n (cell c.before.before.before.before.before.before.before.before.before.args.shape.n c.before.before.before.before.before.before.before.before.before.args.b.now) ps c.before.before.before.before.before.before.before.before.before.args.table.now c.before.before.before.before.before.before.before.before.before.args.product.now c.before.before.before.loop.table c.before.before.before.loop.product)
-      (sym (ap (due c.before.before.before.before.before.before.before.before.before.args.left.skip c.before.before.before.before.before.before.before.before.before.args.left.budget) (each_split (block_at c.before.before.before.before.before.before.before.before.before.args.shape.m c.before.before.before.before.before.before.before.before.before.args.shape.l c.before.before.before.before.before.before.before.before.before.args.shape.width (cell c.before.before.before.before.before.before.before.before.before.args.shape.l c.before.before.before.before.before.before.before.before.before.args.a.now)) c.before.before.before.before.before.before.before.before.before.args.c c.before.before.before.loop.d (blocks c.before.before.before.before.before.before.before.before.before.args.shape.l c.before.before.before.before.before.before.before.before.before.args.shape.width) (omega arith) (omega (arith, c.before.before.before.before.blocks2.ensures)))
-      ∙ due_after (each c.before.before.before.before.before.before.before.before.before.args.c c.before.before.before.loop.d (block_at c.before.before.before.before.before.before.before.before.before.args.shape.m c.before.before.before.before.before.before.before.before.before.args.shape.l c.before.before.before.before.before.before.before.before.before.args.shape.width (cell c.before.before.before.before.before.before.before.before.before.args.shape.l c.before.before.before.before.before.before.before.before.before.args.a.now))) (each c.before.before.before.loop.d (blocks c.before.before.before.before.before.before.before.before.before.args.shape.l c.before.before.before.before.before.before.before.before.before.args.shape.width) (block_at c.before.before.before.before.before.before.before.before.before.args.shape.m c.before.before.before.before.before.before.before.before.before.args.shape.l c.before.before.before.before.before.before.before.before.before.args.shape.width (cell c.before.before.before.before.before.before.before.before.before.args.shape.l c.before.before.before.before.before.before.before.before.before.args.a.now))) c.before.before.before.before.before.before.before.before.before.args.left c.before.before.before.loop.rest c.before.before.before.loop.invariant.2
-      ∙ ap (λ (g : ℕ). due c.before.before.before.before.before.before.before.before.before.args.left.skip c.before.before.before.before.before.before.before.before.before.args.left.budget (each c.before.before.before.before.before.before.before.before.before.args.c c.before.before.before.loop.d (block_at c.before.before.before.before.before.before.before.before.before.args.shape.m c.before.before.before.before.before.before.before.before.before.args.shape.l c.before.before.before.before.before.before.before.before.before.args.shape.width (cell c.before.before.before.before.before.before.before.before.before.args.shape.l c.before.before.before.before.before.before.before.before.before.args.a.now))) ++ due c.before.before.before.loop.rest.skip g (each c.before.before.before.loop.d (blocks c.before.before.before.before.before.before.before.before.before.args.shape.l c.before.before.before.before.before.before.before.before.before.args.shape.width) (block_at c.before.before.before.before.before.before.before.before.before.args.shape.m c.before.before.before.before.before.before.before.before.before.args.shape.l c.before.before.before.before.before.before.before.before.before.args.shape.width (cell c.before.before.before.before.before.before.before.before.before.args.shape.l c.before.before.before.before.before.before.before.before.before.args.a.now)))) c.if1.true
-      ∙ ap (λ (ps : List Step). due c.before.before.before.before.before.before.before.before.before.args.left.skip c.before.before.before.before.before.before.before.before.before.args.left.budget (each c.before.before.before.before.before.before.before.before.before.args.c c.before.before.before.loop.d (block_at c.before.before.before.before.before.before.before.before.before.args.shape.m c.before.before.before.before.before.before.before.before.before.args.shape.l c.before.before.before.before.before.before.before.before.before.args.shape.width (cell c.before.before.before.before.before.before.before.before.before.args.shape.l c.before.before.before.before.before.before.before.before.before.args.a.now))) ++ ps) (due_nothing c.before.before.before.loop.rest.skip (each c.before.before.before.loop.d (blocks c.before.before.before.before.before.before.before.before.before.args.shape.l c.before.before.before.before.before.before.before.before.before.args.shape.width) (block_at c.before.before.before.before.before.before.before.before.before.args.shape.m c.before.before.before.before.before.before.before.before.before.args.shape.l c.before.before.before.before.before.before.before.before.before.args.shape.width (cell c.before.before.before.before.before.before.before.before.before.args.shape.l c.before.before.before.before.before.before.before.before.before.args.a.now)))) ∙ append-nil (due c.before.before.before.before.before.before.before.before.before.args.left.skip c.before.before.before.before.before.before.before.before.before.args.left.budget (each c.before.before.before.before.before.before.before.before.before.args.c c.before.before.before.loop.d (block_at c.before.before.before.before.before.before.before.before.before.args.shape.m c.before.before.before.before.before.before.before.before.before.args.shape.l c.before.before.before.before.before.before.before.before.before.args.shape.width (cell c.before.before.before.before.before.before.before.before.before.args.shape.l c.before.before.before.before.before.before.before.before.before.args.a.now))))))
-      c.before.before.before.loop.invariant.3,
-)
+returns c =
+    subst (λ (ps : List Step). Ran c.before.before.before.before.before.before.before.before.before.args.shape.width c.before.before.before.before.before.before.before.before.before.args.shape.m c.before.before.before.before.before.before.before.before.before.args.shape.n (cell c.before.before.before.before.before.before.before.before.before.args.shape.n c.before.before.before.before.before.before.before.before.before.args.b.now) ps c.before.before.before.before.before.before.before.before.before.args.table.now c.before.before.before.before.before.before.before.before.before.args.product.now c.before.before.before.loop.table c.before.before.before.loop.product)
+    (sym (ap (due c.before.before.before.before.before.before.before.before.before.args.left.skip c.before.before.before.before.before.before.before.before.before.args.left.budget) (each_split (block_at c.before.before.before.before.before.before.before.before.before.args.shape.m c.before.before.before.before.before.before.before.before.before.args.shape.l c.before.before.before.before.before.before.before.before.before.args.shape.width (cell c.before.before.before.before.before.before.before.before.before.args.shape.l c.before.before.before.before.before.before.before.before.before.args.a.now)) c.before.before.before.before.before.before.before.before.before.args.c c.before.before.before.loop.d (blocks c.before.before.before.before.before.before.before.before.before.args.shape.l c.before.before.before.before.before.before.before.before.before.args.shape.width) (omega arith) (omega (arith, c.before.before.before.before.blocks2.ensures)))
+    ∙ due_after (each c.before.before.before.before.before.before.before.before.before.args.c c.before.before.before.loop.d (block_at c.before.before.before.before.before.before.before.before.before.args.shape.m c.before.before.before.before.before.before.before.before.before.args.shape.l c.before.before.before.before.before.before.before.before.before.args.shape.width (cell c.before.before.before.before.before.before.before.before.before.args.shape.l c.before.before.before.before.before.before.before.before.before.args.a.now))) (each c.before.before.before.loop.d (blocks c.before.before.before.before.before.before.before.before.before.args.shape.l c.before.before.before.before.before.before.before.before.before.args.shape.width) (block_at c.before.before.before.before.before.before.before.before.before.args.shape.m c.before.before.before.before.before.before.before.before.before.args.shape.l c.before.before.before.before.before.before.before.before.before.args.shape.width (cell c.before.before.before.before.before.before.before.before.before.args.shape.l c.before.before.before.before.before.before.before.before.before.args.a.now))) c.before.before.before.before.before.before.before.before.before.args.left c.before.before.before.loop.rest c.before.before.before.loop.invariant.2
+    ∙ ap (λ (g : ℕ). due c.before.before.before.before.before.before.before.before.before.args.left.skip c.before.before.before.before.before.before.before.before.before.args.left.budget (each c.before.before.before.before.before.before.before.before.before.args.c c.before.before.before.loop.d (block_at c.before.before.before.before.before.before.before.before.before.args.shape.m c.before.before.before.before.before.before.before.before.before.args.shape.l c.before.before.before.before.before.before.before.before.before.args.shape.width (cell c.before.before.before.before.before.before.before.before.before.args.shape.l c.before.before.before.before.before.before.before.before.before.args.a.now))) ++ due c.before.before.before.loop.rest.skip g (each c.before.before.before.loop.d (blocks c.before.before.before.before.before.before.before.before.before.args.shape.l c.before.before.before.before.before.before.before.before.before.args.shape.width) (block_at c.before.before.before.before.before.before.before.before.before.args.shape.m c.before.before.before.before.before.before.before.before.before.args.shape.l c.before.before.before.before.before.before.before.before.before.args.shape.width (cell c.before.before.before.before.before.before.before.before.before.args.shape.l c.before.before.before.before.before.before.before.before.before.args.a.now)))) c.if1.true
+    ∙ ap (λ (ps : List Step). due c.before.before.before.before.before.before.before.before.before.args.left.skip c.before.before.before.before.before.before.before.before.before.args.left.budget (each c.before.before.before.before.before.before.before.before.before.args.c c.before.before.before.loop.d (block_at c.before.before.before.before.before.before.before.before.before.args.shape.m c.before.before.before.before.before.before.before.before.before.args.shape.l c.before.before.before.before.before.before.before.before.before.args.shape.width (cell c.before.before.before.before.before.before.before.before.before.args.shape.l c.before.before.before.before.before.before.before.before.before.args.a.now))) ++ ps) (due_nothing c.before.before.before.loop.rest.skip (each c.before.before.before.loop.d (blocks c.before.before.before.before.before.before.before.before.before.args.shape.l c.before.before.before.before.before.before.before.before.before.args.shape.width) (block_at c.before.before.before.before.before.before.before.before.before.args.shape.m c.before.before.before.before.before.before.before.before.before.args.shape.l c.before.before.before.before.before.before.before.before.before.args.shape.width (cell c.before.before.before.before.before.before.before.before.before.args.shape.l c.before.before.before.before.before.before.before.before.before.args.a.now)))) ∙ append-nil (due c.before.before.before.before.before.before.before.before.before.args.left.skip c.before.before.before.before.before.before.before.before.before.args.left.budget (each c.before.before.before.before.before.before.before.before.before.args.c c.before.before.before.loop.d (block_at c.before.before.before.before.before.before.before.before.before.args.shape.m c.before.before.before.before.before.before.before.before.before.args.shape.l c.before.before.before.before.before.before.before.before.before.args.shape.width (cell c.before.before.before.before.before.before.before.before.before.args.shape.l c.before.before.before.before.before.before.before.before.before.args.a.now))))))
+    c.before.before.before.loop.invariant.3
 
 block-part-requires : tie.Need-block-part-requires invariant-loop decreases-loop
 block-part-requires c κs = (c.before.before.before.before.before.before.before.before.before.before.before.requires.0, c.before.before.before.before.before.loop.invariant.6, c.before.before.before.before.before.loop.invariant.7, c.before.before.before.before.before.before.before.before.before.before.before.requires.3, c.before.before.before.before.before.before.before.before.before.before.before.requires.4, omega (arith, c.before.before.before.before.before.before.blocks2.ensures))
@@ -75,11 +73,9 @@ same-length-4 : tie.Need-same-length-4 invariant-loop decreases-loop
 same-length-4 c = c.before.loop.invariant.5
 
 returns-2 : tie.Need-returns-2 invariant-loop decreases-loop
-returns-2 c = (
-  stop_end c.before.before.before.before.before.before.before.args.left c.before.loop.rest c.before.before.before.before.before.before.before.args.c c.before.loop.d (blocks c.before.before.before.before.before.before.before.args.shape.l c.before.before.before.before.before.before.before.args.shape.width) (block_at c.before.before.before.before.before.before.before.args.shape.m c.before.before.before.before.before.before.before.args.shape.l c.before.before.before.before.before.before.before.args.shape.width (cell c.before.before.before.before.before.before.before.args.shape.l c.before.before.before.before.before.before.before.args.a.now)) c.before.loop.invariant.0 c.before.loop.invariant.2 c.before.before.blocks2.result (omega (arith, c.before.loop.invariant.1)) c.before.before.blocks2.ensures,
-  let e : c.before.loop.d ≡ blocks c.before.before.before.before.before.before.before.args.shape.l c.before.before.before.before.before.before.before.args.shape.width = omega (arith, c.before.before.blocks2.ensures) in
-      subst (λ (d : ℕ). Ran c.before.before.before.before.before.before.before.args.shape.width c.before.before.before.before.before.before.before.args.shape.m c.before.before.before.before.before.before.before.args.shape.n (cell c.before.before.before.before.before.before.before.args.shape.n c.before.before.before.before.before.before.before.args.b.now) (due c.before.before.before.before.before.before.before.args.left.skip c.before.before.before.before.before.before.before.args.left.budget (each c.before.before.before.before.before.before.before.args.c d (block_at c.before.before.before.before.before.before.before.args.shape.m c.before.before.before.before.before.before.before.args.shape.l c.before.before.before.before.before.before.before.args.shape.width (cell c.before.before.before.before.before.before.before.args.shape.l c.before.before.before.before.before.before.before.args.a.now)))) c.before.before.before.before.before.before.before.args.table.now c.before.before.before.before.before.before.before.args.product.now c.before.loop.table c.before.loop.product) e c.before.loop.invariant.3,
-)
+returns-2 c =
+    let e : c.before.loop.d ≡ blocks c.before.before.before.before.before.before.before.args.shape.l c.before.before.before.before.before.before.before.args.shape.width = omega (arith, c.before.before.blocks2.ensures) in
+    subst (λ (d : ℕ). Ran c.before.before.before.before.before.before.before.args.shape.width c.before.before.before.before.before.before.before.args.shape.m c.before.before.before.before.before.before.before.args.shape.n (cell c.before.before.before.before.before.before.before.args.shape.n c.before.before.before.before.before.before.before.args.b.now) (due c.before.before.before.before.before.before.before.args.left.skip c.before.before.before.before.before.before.before.args.left.budget (each c.before.before.before.before.before.before.before.args.c d (block_at c.before.before.before.before.before.before.before.args.shape.m c.before.before.before.before.before.before.before.args.shape.l c.before.before.before.before.before.before.before.args.shape.width (cell c.before.before.before.before.before.before.before.args.shape.l c.before.before.before.before.before.before.before.args.a.now)))) c.before.before.before.before.before.before.before.args.table.now c.before.before.before.before.before.before.before.args.product.now c.before.loop.table c.before.loop.product) e c.before.loop.invariant.3
 
 pub blocks-part-spec : {M : Type 1} → statement M
 blocks-part-spec =

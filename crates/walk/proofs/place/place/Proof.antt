@@ -5,7 +5,7 @@ use Rattle.cells.specs.Counts.{sum}
 use Rattle.steps.specs.Count.{count_at}
 use Rattle.steps.proofs.Loops.{blocks_within, width_pos, width_le, width_within}
 use Rattle.cells.proofs.SumLaws.{sum_none}
-use Rattle.walk.proofs.CountLaws.{place_more, place_small, Last, last-still, place_all}
+use Rattle.walk.proofs.CountLaws.{place_more, place_small, Last, last_still, place_all}
 use native.Mathlib.Omega.{arith}
 use Rattle.walk.proofs.place.place.Statement.{statement}
 use Rattle.walk.proofs.place.place.Tie as tie
@@ -52,7 +52,7 @@ loop-again-2 c =
     let at = c.before.before.before.before.loop in
     let A = cell s.args.l s.args.a.now in
     let more = place_more s.args.m s.args.l s.args.k A at.b at.total _ _ c.before.before.width.ensures at.invariant.1 c.before.block-count.ensures in
-    (omega arith, more, at.invariant.2, at.invariant.3, at.invariant.4, last-still s.args.m s.args.l s.args.k A s.args.done at.block at.b at.invariant.5 (rw more at c.if1.false))
+    (omega arith, more, at.invariant.2, at.invariant.3, at.invariant.4, last_still s.args.m s.args.l s.args.k A s.args.done at.block at.b at.invariant.5 (rw more at c.if1.false))
 
 returns : tie.Need-returns invariant-loop decreases-loop
 returns c =
@@ -60,7 +60,7 @@ returns c =
     let at = c.before.loop in
     let end = c.before.before.blocks2.ensures in
     record {
-      total-is = place_all s.args.m s.args.l s.args.k (cell s.args.l s.args.a.now) at.b _ (omega (arith, end)) at.invariant.1;
+      total_is = place_all s.args.m s.args.l s.args.k (cell s.args.l s.args.a.now) at.b _ (omega (arith, end)) at.invariant.1;
       before_is = at.invariant.2;
       begun = at.invariant.3;
       within = omega (arith, end, at.invariant.4);
