@@ -1,4 +1,6 @@
 // What bench/ measures: row steps, many times over, and requests. No part of the library, and no statement is made of it beyond its safety.
+#![tactic(auto)]
+
 pub mod calls;
 pub mod copies;
 pub mod row_steps;

@@ -1,7 +1,7 @@
 -- What is right of a line that was read: the numbers that its digits say, of which it is the line. Assumes nothing.
 use Rattle.std.specs.Prelude.{◌≡◌, List, ℕ}
 use Rattle.buffers.specs.Buffer.{wide}
-use Rattle.hex.specs.Line.{value_of}
+use Rattle.hexadecimal.specs.Line.{value_of}
 use Rattle.frames.specs.Header.{header_of}
 use Rattle.frames.specs.RowLine.{line_of, words_of}
 

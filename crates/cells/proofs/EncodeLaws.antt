@@ -1,5 +1,5 @@
 -- The words that hold given digits are the only ones. Assumes nothing.
-use Rattle.std.proofs.Common.{◌≡◌, ℕ, ◌-◌, ◌^◌, ◌<◌, sym, ◌∙◌, arith}
+use Rattle.std.proofs.Common.{◌≡◌, ℕ, ◌^◌, ◌<◌, sym, ◌∙◌, arith}
 use Rattle.cells.specs.Bit.{bit}
 use Rattle.cells.specs.Digit.{unit_of, sign_of}
 use Rattle.cells.specs.Pair.{digit, LegalPair, Holds}

@@ -1,5 +1,5 @@
 -- Laws of legal pairs of words. Assumes nothing.
-use Rattle.std.proofs.Common.{◌≡◌, ℕ, zero, suc, ◌-◌, ◌<◌, ◌≤◌, refl, ◌∙◌, arith}
+use Rattle.std.proofs.Common.{◌≡◌, ℕ, zero, suc, ◌<◌, ◌≤◌, refl, ◌∙◌, arith}
 use Rattle.cells.specs.Pair.{digit, LegalPair, Holds}
 use Rattle.cells.proofs.WordLaws.{bit_of_zero}
 

@@ -2,7 +2,7 @@
 ghost use Rattle.std.specs.Prelude.{ℕ, ◌<◌};
 ghost use Rattle.cells.specs.Lowest.{Peels};
 
-#[derive(Drop)]
+#[derive(Clone, Copy)]
 pub struct Peeled {
     pub at: u32,
     pub rest: u64,

@@ -1,5 +1,7 @@
 // The C face: requests over bytes. Each word is eight bytes, lowest byte first, and each call returns document 01's number. None of them asks
 // anything of its caller: any counts, any record and buffers of any length get an answer, and a refusal changes no byte.
+#![tactic(auto)]
+
 pub mod check;
 pub mod combination;
 mod count;

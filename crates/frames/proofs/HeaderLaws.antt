@@ -7,8 +7,8 @@ use native.Mathlib.Omega.{arith}
 use Rattle.buffers.specs.Buffer.{tab}
 use Rattle.requests.specs.declared.Size.{Size}
 use Rattle.requests.specs.Sizes.{over}
-use Rattle.hex.specs.Digit.{nibble}
-use Rattle.hex.specs.Line.{hex_of, value_of}
+use Rattle.hexadecimal.specs.Digit.{nibble}
+use Rattle.hexadecimal.specs.Line.{hex_of, value_of}
 use Rattle.frames.specs.Header.{header_of, size_of}
 
 pub header_over : (line : List ℕ) (r c : ℕ) {b : Bool} → r ≡ value_of line 0 4 → c ≡ value_of line 4 4 → over (record { rows = r; columns = c }) ≡ b → over (size_of line) ≡ b

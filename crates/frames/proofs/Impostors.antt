@@ -11,8 +11,8 @@ use Rattle.requests.specs.declared.Size.{Size}
 use Rattle.requests.specs.Answers.{word, first, left, answered}
 use Rattle.requests.specs.Sizes.{over}
 use Rattle.requests.proofs.ShownOut.{ShownOut, shown_out}
-use Rattle.hex.specs.Digit.{digit_of, byte_of, nibble}
-use Rattle.hex.specs.Line.{hex_of, value_of, undigit, unframed}
+use Rattle.hexadecimal.specs.Digit.{digit_of, byte_of, nibble}
+use Rattle.hexadecimal.specs.Line.{hex_of, value_of, undigit, unframed}
 use Rattle.frames.specs.Header.{header_of, size_of, read_header_tests, read_header_means, write_header_tests, write_header_means}
 use Rattle.frames.specs.RowLine.{line_long, line_of, words_of, read_row_tests, read_row_means, write_row_tests, write_row_means}
 

@@ -16,13 +16,13 @@ use Rattle.requests.specs.Answers.{first}
 use Rattle.requests.specs.Sizes.{over}
 use Rattle.requests.proofs.AnswerLaws.{finished, first_none, later, none_first}
 use Rattle.requests.proofs.SizeLaws.{over_rows, over_columns}
-use Rattle.hex.specs.Digit.{byte_of, nibble}
-use Rattle.hex.specs.Line.{hex_of, value_of, unframed}
+use Rattle.hexadecimal.specs.Digit.{byte_of, nibble}
+use Rattle.hexadecimal.specs.Line.{hex_of, value_of, unframed}
 use Rattle.frames.specs.Header.{header_of, size_of, read_header_tests, read_header_means, write_header_tests, write_header_means}
 use Rattle.frames.specs.RowLine.{line_long, line_of, words_of, read_row_tests, read_row_means, write_row_tests, write_row_means}
-use Rattle.hex.proofs.HexLaws.{Framed, framed}
-use Rattle.hex.proofs.DigitLaws.{Says, value_said, byte_value, nibble_lt, framed_line}
-use Rattle.hex.proofs.LineLaws.{Filled, hex_length, hex_filled, end_length, end_front, same_line}
+use Rattle.hexadecimal.proofs.HexLaws.{Framed, framed}
+use Rattle.hexadecimal.proofs.DigitLaws.{Says, value_said, byte_value, nibble_lt, framed_line}
+use Rattle.hexadecimal.proofs.LineLaws.{Filled, hex_length, hex_filled, end_length, end_front, same_line}
 use Rattle.frames.proofs.HeaderLaws.{header_over, header_read, header_eight}
 use Rattle.frames.proofs.RowLineLaws.{byte_at, row_filled}
 

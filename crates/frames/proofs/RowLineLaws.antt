@@ -14,11 +14,11 @@ use Rattle.buffers.proofs.SizeLaws.{planes_le}
 use Rattle.buffers.proofs.BufferLaws.{length_tab, get_d_tab, length_joined, get_d_joined, by_row}
 use Rattle.requests.specs.Answers.{first}
 use Rattle.requests.proofs.AnswerLaws.{first_none}
-use Rattle.hex.specs.Digit.{byte_of, nibble}
-use Rattle.hex.specs.Line.{hex_of, value_of, unframed}
+use Rattle.hexadecimal.specs.Digit.{byte_of, nibble}
+use Rattle.hexadecimal.specs.Line.{hex_of, value_of, unframed}
 use Rattle.frames.specs.RowLine.{line_long, line_of, words_of, read_row_tests, write_row_tests}
-use Rattle.hex.proofs.HexLaws.{Framed, framed}
-use Rattle.hex.proofs.LineLaws.{Filled, filled_end, hex_length, hex_filled}
+use Rattle.hexadecimal.proofs.HexLaws.{Framed, framed}
+use Rattle.hexadecimal.proofs.LineLaws.{Filled, filled_end, hex_length, hex_filled}
 
 pub wide_le : (c : ℕ) → c ≤ 1024 → wide c ≤ 32
 unfolding wide

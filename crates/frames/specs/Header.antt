@@ -3,7 +3,7 @@ use Rattle.std.specs.Prelude.{not, List, [], ◌∷◌, ◌++◌, ℕ, eqb, leng
 use Rattle.requests.specs.declared.Size.{Size}
 use Rattle.requests.specs.Answers.{Tests, answered}
 use Rattle.requests.specs.Sizes.{over}
-use Rattle.hex.specs.Line.{hex_of, value_of, unframed}
+use Rattle.hexadecimal.specs.Line.{hex_of, value_of, unframed}
 
 unfoldable pub header_of : Size → List ℕ
 header_of s = hex_of 4 s.rows ++ (hex_of 4 s.columns ++ (10 ∷ []))

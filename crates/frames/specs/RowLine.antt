@@ -2,7 +2,7 @@
 use Rattle.std.specs.Prelude.{not, ◌||◌, List, [], ◌∷◌, ◌++◌, ℕ, ◌+◌, ◌*◌, ltb, eqb, length, get_or}
 use Rattle.buffers.specs.Buffer.{wide, tab, joined}
 use Rattle.requests.specs.Answers.{Tests, answered}
-use Rattle.hex.specs.Line.{hex_of, value_of, unframed}
+use Rattle.hexadecimal.specs.Line.{hex_of, value_of, unframed}
 
 -- how many bytes the line of a row has
 unfoldable pub line_long : ℕ → ℕ

@@ -3,12 +3,12 @@ ghost use Rattle.std.specs.Prelude.{◌≡◌};
 ghost use Rattle.requests.specs.Answers.{word};
 ghost use Rattle.frames.specs.Header.{read_header_means, write_header_means};
 
-use hex::line::{put, unframed, value};
+use hexadecimal::line::{put, unframed, value};
 use requests::sizes::over;
 use requests::{Answer, Reason, Size};
 
 // An answer, and the counts that a header says: both 0 where it is refused.
-#[derive(Drop)]
+#[derive(Clone, Copy)]
 pub struct Header {
     pub answer: Answer,
     pub rows: u64,

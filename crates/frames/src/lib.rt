@@ -1,3 +1,5 @@
 // A matrix in text, line by line: the header line and the line of a row, read and written.
+#![tactic(auto)]
+
 pub mod header;
 pub mod row_line;

@@ -1,12 +1,12 @@
 // The line of a row: its words in order, sixteen digits each, and byte 10. A row of no words is byte 10 alone.
 ghost use Rattle.std.specs.Prelude.{◌≡◌, ℕ, ◌+◌, ◌*◌, ◌≤◌, ◌<◌, length, get_or};
 ghost use Rattle.requests.specs.Answers.{word, first};
-ghost use Rattle.hex.specs.Digit.{digit_of};
+ghost use Rattle.hexadecimal.specs.Digit.{digit_of};
 ghost use Rattle.frames.specs.RowLine.{line_of, words_of, read_row_tests, read_row_means, write_row_tests, write_row_means};
 
 use buffers::planes::planes;
-use hex::digit::byte_of;
-use hex::line::{unframed, value};
+use hexadecimal::digit::byte_of;
+use hexadecimal::line::{unframed, value};
 use requests::{Answer, Reason, word};
 
 // What is wrong with a line to be read into n words.

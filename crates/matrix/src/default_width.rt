@@ -6,7 +6,7 @@ ghost use Rattle.steps.specs.Width.{better, default_width};
 use super::quoted::quoted;
 
 // A width, and its quote.
-#[derive(Drop)]
+#[derive(Clone, Copy)]
 struct Choice {
     width: u64,
     steps: u64,

@@ -1,5 +1,5 @@
 // A job's record.
-#[derive(Drop)]
+#[derive(Clone, Copy)]
 pub struct Job {
     pub m: u64,
     pub l: u64,

@@ -1,5 +1,7 @@
 // Packed matrices over the field of three elements: the requests of the library. None of them asks anything of its caller: any sizes, any
 // digit and buffers of any length get an answer, and a refusal leaves every buffer as it was.
+#![tactic(auto)]
+
 pub mod check;
 pub mod combination;
 mod default_width;

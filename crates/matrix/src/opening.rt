@@ -12,7 +12,7 @@ use requests::{Answer, Buffer, Reason, Size};
 use rows::clear::clear;
 
 // Done with its record, or refused with a reason and no record.
-#[derive(Drop)]
+#[derive(Clone, Copy)]
 pub enum Opened {
     Done(Job),
     Refused(Reason),

@@ -9,7 +9,7 @@ use requests::sizes::over;
 use requests::{Answer, Reason, Size, word};
 
 // An answer, and how many steps.
-#[derive(Drop)]
+#[derive(Clone, Copy)]
 pub struct Counted {
     pub answer: Answer,
     pub steps: u64,

@@ -8,7 +8,7 @@ use buffers::planes::planes;
 use requests::{Answer, Size, word};
 
 // Zeros, ones and twos, and whether all three are equally many.
-#[derive(Drop)]
+#[derive(Clone, Copy)]
 pub struct Tallied {
     pub answer: Answer,
     pub counts: [u64; 3],

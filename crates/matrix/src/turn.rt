@@ -16,7 +16,7 @@ use walk::place::{Standing, place};
 use walk::{Left, Shape};
 
 // Done with its record, the steps made and whether the list is finished, or refused with a reason and no record.
-#[derive(Drop)]
+#[derive(Clone, Copy)]
 pub enum Turned {
     Done { job: Job, made: u64, finished: bool },
     Refused(Reason),

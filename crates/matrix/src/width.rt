@@ -8,7 +8,7 @@ use super::quote::judged;
 use requests::{Answer, Size, word};
 
 // An answer, and the width meant.
-#[derive(Drop)]
+#[derive(Clone, Copy)]
 pub struct Meant {
     pub answer: Answer,
     pub width: u64,

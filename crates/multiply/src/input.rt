@@ -2,33 +2,34 @@
 ghost use Rattle.std.specs.Prelude.{◌≡◌, ◌+◌, ◌≤◌, length, take};
 ghost use Rattle.multiply.specs.Reads.{Reads};
 
-use libc::STDIN_FILENO;
+use std::io::{Read, Stdin};
 use texts::stops::stops;
 
 // How many bytes were read, and how many of them the last read gave.
-#[derive(Drop)]
+#[derive(Clone, Copy)]
 pub struct Input {
     pub bytes: usize,
     pub last: usize,
 }
 
 // One read, behind the bytes that are there: how many it gave, and 0 at the end of the input or where it failed.
-fn read_more(buffer: &mut [u8], done: usize) -> usize
+fn read_more(stdin: &mut Stdin, buffer: &mut [u8], done: usize) -> usize
     requires { done ≤ length buffer.old }
     ensures { (done + result ≤ length buffer.new) × (take done buffer.new ≡ take done buffer.old) × (length buffer.new ≡ length buffer.old) }
 {
-    let end = buffer.len();
-    let got = libc::read(STDIN_FILENO, &mut buffer[done..end]);
-    io::count(got, &buffer[done..end])
+    match stdin.read(&mut buffer[done..]) {
+        Ok(got) => got,
+        Err(_) => 0,
+    }
 }
 
-pub fn read_text(buffer: &mut [u8]) -> Input
+pub fn read_text(stdin: &mut Stdin, buffer: &mut [u8]) -> Input
     ensures { Reads buffer.new result.bytes result.last }
 {
     let mut bytes = 0;
     let mut last = 0;
     while bytes < buffer.len() {
-        last = read_more(buffer, bytes);
+        last = read_more(stdin, buffer, bytes);
         bytes += last;
         if last == 0 {
             return Input {

@@ -1,17 +1,22 @@
 // Reads A, then B, then the end of the input, and prints their product and its total, or one refusal line: texts::multiply decides all of it.
+#![tactic(auto)]
+
 mod input;
 
 use input::read_text;
-use libc::STDOUT_FILENO;
+use std::io;
+use std::io::Write;
 use texts::multiply::multiply;
 
 // Two matrices of 128 rows and 128 columns take 16,658 bytes; one byte more is read, so that longer input is seen to be longer and input
 // without an end gets its answer. No answer is longer than 8,338 bytes.
-fn main() {
+fn main(rt: HostRuntime) -> io::Result<()> {
     let mut input = [0u8; 16659];
-    let read = read_text(&mut input);
+    let mut stdin = rt.stdin();
+    let read = read_text(&mut stdin, &mut input);
     let n = read.bytes;
     let mut output = [0u8; 8338];
     let m = multiply(&input[..n], &mut output);
-    io::write_all(STDOUT_FILENO, &output[..m]);
+    let mut stdout = rt.stdout();
+    stdout.write_all(&output[..m])
 }

@@ -1,4 +1,6 @@
 // What every request shares: sizes, answers with their words, and the tests of one buffer, of one matrix and of two.
+#![tactic(auto)]
+
 ghost use Rattle.std.specs.Prelude.{◌≡◌};
 ghost use Rattle.requests.specs.Answers.{buffer_number, placed, reason_word, word, number_in};
 
@@ -9,7 +11,7 @@ pub mod single;
 pub mod sizes;
 
 // A matrix's row and column counts, as they are handed in: any 64-bit numbers.
-#[derive(Drop)]
+#[derive(Clone, Copy)]
 pub struct Size {
     pub rows: u64,
     pub columns: u64,
@@ -17,7 +19,7 @@ pub struct Size {
 
 // The buffers that a request looks at, in its order: A, B, table and product are the first to the fourth. No place has a buffer 0, so that
 // none looks like a refusal without a place.
-#[derive(Drop)]
+#[derive(Clone, Copy)]
 pub enum Buffer {
     First,
     Second,
@@ -26,7 +28,7 @@ pub enum Buffer {
 }
 
 // Where a cell is wrong: row and column count from 0, and a padding bit's column is its position.
-#[derive(Drop)]
+#[derive(Clone, Copy)]
 pub struct Place {
     pub buffer: Buffer,
     pub row: u16,
@@ -34,7 +36,7 @@ pub struct Place {
 }
 
 // Why a request is refused. A digit of unpacked cells has its place; a scale has none.
-#[derive(Drop)]
+#[derive(Clone, Copy)]
 pub enum Reason {
     TooLarge,
     SizesDiffer,
@@ -50,7 +52,7 @@ pub enum Reason {
 }
 
 // What a request answers: done, or why it is refused.
-#[derive(Drop)]
+#[derive(Clone, Copy)]
 pub enum Answer {
     Done,
     Refused(Reason),

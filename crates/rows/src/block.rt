@@ -8,7 +8,7 @@ ghost use Rattle.rows.specs.Block.{block_of};
 use cells::mask::low;
 
 // P and N.
-#[derive(Drop)]
+#[derive(Clone, Copy)]
 pub struct Bits {
     pub ones: u64,
     pub twos: u64,

@@ -1,4 +1,6 @@
 // A row as a part of a slice: q unit words and then q sign words, from any word on.
+#![tactic(auto)]
+
 pub mod add;
 pub mod block;
 pub mod clear;

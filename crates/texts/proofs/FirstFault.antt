@@ -14,8 +14,8 @@ use Rattle.cells.proofs.AnyLaws.{or_left, or_right, or_yes, any_none, any_at, an
 use Rattle.buffers.specs.Buffer.{wide}
 use Rattle.requests.specs.Answers.{Tests, first}
 use Rattle.requests.proofs.AnswerLaws.{here, later, append_given, append_none}
-use Rattle.hex.specs.Digit.{digit_of}
-use Rattle.hex.specs.Line.{undigit, unframed}
+use Rattle.hexadecimal.specs.Digit.{digit_of}
+use Rattle.hexadecimal.specs.Line.{undigit, unframed}
 use Rattle.frames.specs.Header.{read_header_tests}
 use Rattle.frames.specs.RowLine.{line_long}
 use Rattle.texts.specs.MatrixText.{line_at, misread, size_in, rest_of, head_tests, matrix_tests}

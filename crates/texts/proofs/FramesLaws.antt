@@ -11,7 +11,7 @@ use Rattle.buffers.proofs.SizeLaws.{planes_le}
 use Rattle.requests.specs.declared.Size.{Size}
 use Rattle.requests.specs.Answers.{first, left, answered}
 use Rattle.requests.specs.Sizes.{over}
-use Rattle.hex.specs.Line.{hex_of}
+use Rattle.hexadecimal.specs.Line.{hex_of}
 use Rattle.frames.specs.Header.{header_of, write_header_tests, write_header_means}
 use Rattle.frames.specs.RowLine.{line_long}
 use Rattle.texts.specs.MatrixText.{lines_of}

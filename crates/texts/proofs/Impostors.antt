@@ -16,8 +16,8 @@ use Rattle.steps.specs.Count.{quote, total}
 use Rattle.steps.specs.Width.{better, cheapest, default_width}
 use Rattle.steps.specs.StepList.{many, each, blocks, steps}
 use Rattle.matrix.specs.Job.{meant}
-use Rattle.hex.specs.Digit.{digit_of, byte_of, nibble}
-use Rattle.hex.specs.Line.{hex_of, value_of, undigit, unframed}
+use Rattle.hexadecimal.specs.Digit.{digit_of, byte_of, nibble}
+use Rattle.hexadecimal.specs.Line.{hex_of, value_of, undigit, unframed}
 use Rattle.frames.specs.Header.{header_of, size_of, read_header_tests}
 use Rattle.frames.specs.RowLine.{line_long}
 use Rattle.texts.specs.MatrixText.{misread, words_read, lines_of, size_in, words_in, rest_of, above, head_tests, matrix_tests}

@@ -10,7 +10,7 @@ use lib.Seq.{take_at, drop_at, drop-drop}
 use borrow.Author.Tests.{lt-ltb, le-ltb}
 use Rattle.buffers.specs.Buffer.{tab, joined}
 use Rattle.buffers.proofs.BufferLaws.{length_joined}
-use Rattle.hex.specs.Line.{hex_of}
+use Rattle.hexadecimal.specs.Line.{hex_of}
 use Rattle.texts.specs.Multiply.{refusal, laid, placed}
 
 pub laid_length : (text out : List ℕ) → length text ≤ length out → length (laid text out) ≡ length out

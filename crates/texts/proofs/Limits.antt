@@ -14,7 +14,7 @@ use Rattle.buffers.specs.Buffer.{planes, wide, joined, cell, encode}
 use Rattle.requests.specs.declared.Size.{Size}
 use Rattle.requests.specs.Answers.{Tests, first}
 use Rattle.requests.proofs.AnswerLaws.{append_given, append_none, append_front, append_same, first_none}
-use Rattle.hex.specs.Line.{unframed}
+use Rattle.hexadecimal.specs.Line.{unframed}
 use Rattle.frames.specs.Header.{read_header_tests}
 use Rattle.frames.specs.RowLine.{line_long, words_of}
 use Rattle.steps.specs.Matrix.{schoolbook}

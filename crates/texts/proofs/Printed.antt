@@ -11,9 +11,9 @@ use Rattle.requests.specs.Answers.{Tests, first}
 use Rattle.requests.specs.Faults.{faults}
 use Rattle.requests.specs.Exact.{None, Gives}
 use Rattle.requests.proofs.AnswerLaws.{given, gives, first_none, none_first}
-use Rattle.hex.specs.Digit.{digit_of, byte_of, nibble}
-use Rattle.hex.specs.Line.{hex_of, value_of}
-use Rattle.hex.proofs.DigitLaws.{Says, value_said, byte_digit, nibble_lt}
+use Rattle.hexadecimal.specs.Digit.{digit_of, byte_of, nibble}
+use Rattle.hexadecimal.specs.Line.{hex_of, value_of}
+use Rattle.hexadecimal.proofs.DigitLaws.{Says, value_said, byte_digit, nibble_lt}
 use Rattle.frames.specs.Header.{header_of, read_header_tests}
 use Rattle.texts.specs.MatrixText.{size_in, words_in, rest_of, head_tests, matrix_tests}
 use Rattle.texts.specs.Multiply.{form_tests, product_tests, multiply_tests, refusal, frames_of, product_text, product_in, answer_text, multiply_text}

@@ -17,8 +17,8 @@ use Rattle.steps.specs.Count.{quote, total}
 use Rattle.steps.specs.Width.{better, cheapest, default_width}
 use Rattle.steps.specs.StepList.{unless0, many, each, table_steps, row_steps, block_steps, blocks, block_width, steps}
 use Rattle.matrix.specs.Job.{meant}
-use Rattle.hex.specs.Digit.{digit_of, byte_of, nibble}
-use Rattle.hex.specs.Line.{hex_of, value_of, undigit, unframed}
+use Rattle.hexadecimal.specs.Digit.{digit_of, byte_of, nibble}
+use Rattle.hexadecimal.specs.Line.{hex_of, value_of, undigit, unframed}
 use Rattle.frames.specs.Header.{header_of, size_of, read_header_tests}
 use Rattle.frames.specs.RowLine.{line_long, line_of, words_of}
 use Rattle.texts.specs.MatrixText.{line_at, misread, words_read, lines_of, size_in, words_in, rest_of, above, head_tests, matrix_tests}

@@ -13,7 +13,7 @@ use Rattle.cells.specs.Any.{any}
 use Rattle.cells.proofs.AnyLaws.{or_yes, any_none, any_next, any_found}
 use Rattle.buffers.specs.Buffer.{planes, wide}
 use Rattle.requests.specs.Answers.{first}
-use Rattle.hex.specs.Line.{undigit, unframed}
+use Rattle.hexadecimal.specs.Line.{undigit, unframed}
 use Rattle.frames.specs.RowLine.{line_long}
 use Rattle.texts.specs.MatrixText.{line_at, size_in, rest_of, head_tests, size_means}
 use Rattle.texts.specs.Stops.{line_stops, head_stops, row_stops, rows_stop, matrix_stops, stops}

@@ -17,11 +17,11 @@ use Rattle.buffers.proofs.BufferLaws.{length_tab, length_joined}
 use Rattle.requests.specs.Answers.{first, left, answered}
 use Rattle.requests.proofs.AnswerLaws.{here, later, refused, finished, refusal_keeps, done_makes, append_given, append_none, first_none}
 use Rattle.walk.proofs.CountLaws.{pow_small}
-use Rattle.hex.specs.Line.{hex_of, unframed}
-use Rattle.hex.proofs.HexLaws.{framed}
+use Rattle.hexadecimal.specs.Line.{hex_of, unframed}
+use Rattle.hexadecimal.proofs.HexLaws.{framed}
 use Rattle.frames.specs.Header.{size_of, read_header_tests, read_header_means}
 use Rattle.frames.specs.RowLine.{line_long, line_of, words_of, read_row_tests, read_row_means, write_row_tests, write_row_means}
-use Rattle.hex.proofs.LineLaws.{hex_length}
+use Rattle.hexadecimal.proofs.LineLaws.{hex_length}
 use Rattle.texts.specs.MatrixText.{line_at, misread, words_read, lines_of, size_in, words_in, rest_of, above, head_tests, size_means, matrix_tests}
 use Rattle.texts.specs.Multiply.{laid}
 use Rattle.texts.proofs.LaidLaws.{joined_laid}

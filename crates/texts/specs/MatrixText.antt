@@ -4,7 +4,7 @@ use Rattle.cells.specs.Any.{any}
 use Rattle.buffers.specs.Buffer.{wide, joined}
 use Rattle.requests.specs.declared.Size.{Size}
 use Rattle.requests.specs.Answers.{Tests, answered}
-use Rattle.hex.specs.Line.{unframed}
+use Rattle.hexadecimal.specs.Line.{unframed}
 use Rattle.frames.specs.Header.{size_of, read_header_tests}
 use Rattle.frames.specs.RowLine.{line_long, line_of, words_of}
 use Rattle.requests.specs.Sizes.{exceeds}

@@ -6,7 +6,7 @@ use Rattle.requests.specs.Answers.{Tests, first}
 use Rattle.requests.specs.Faults.{fault_numbers}
 use Rattle.steps.specs.Matrix.{schoolbook}
 use Rattle.matrix.specs.Job.{meant, product_size, unmatched, total_of}
-use Rattle.hex.specs.Line.{hex_of}
+use Rattle.hexadecimal.specs.Line.{hex_of}
 use Rattle.frames.specs.Header.{header_of}
 use Rattle.texts.specs.MatrixText.{lines_of, size_in, words_in, rest_of, matrix_tests}
 

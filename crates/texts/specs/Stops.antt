@@ -3,7 +3,7 @@ use Rattle.std.specs.Prelude.{Bool, cond, ◌||◌, List, ℕ, ◌*◌, ltb, len
 use Rattle.cells.specs.Any.{any}
 use Rattle.buffers.specs.Buffer.{wide}
 use Rattle.requests.specs.Answers.{first}
-use Rattle.hex.specs.Line.{undigit, unframed}
+use Rattle.hexadecimal.specs.Line.{undigit, unframed}
 use Rattle.frames.specs.RowLine.{line_long}
 use Rattle.texts.specs.MatrixText.{size_in, rest_of, head_tests}
 

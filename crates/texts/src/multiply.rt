@@ -16,7 +16,7 @@ use matrix::width::width;
 use requests::{Answer, Reason, Size, number, word};
 
 // An answer, and the sizes of A and B.
-#[derive(Drop)]
+#[derive(Clone, Copy)]
 struct Form {
     answer: Answer,
     x: Size,
@@ -24,7 +24,7 @@ struct Form {
 }
 
 // An answer, and the exact total.
-#[derive(Drop)]
+#[derive(Clone, Copy)]
 struct Outcome {
     answer: Answer,
     total: u64,

@@ -2,7 +2,7 @@
 ghost use Rattle.std.specs.Prelude.{◌≡◌, false, ◌+◌, ◌*◌, ◌≤◌, ◌<◌, length, take, drop};
 ghost use Rattle.buffers.specs.Buffer.{wide, words};
 ghost use Rattle.requests.specs.Answers.{word, first};
-ghost use Rattle.hex.specs.Line.{unframed};
+ghost use Rattle.hexadecimal.specs.Line.{unframed};
 ghost use Rattle.frames.specs.RowLine.{line_long, words_of};
 ghost use Rattle.texts.specs.MatrixText.{misread, words_read, above, size_means, matrix_tests};
 ghost use Rattle.texts.specs.Found.{Found};
@@ -13,7 +13,7 @@ use frames::row_line::read_row;
 use requests::{Answer, Reason, word};
 
 // An answer, the size that the header says, and the place in the text where what comes after the matrix begins.
-#[derive(Drop)]
+#[derive(Clone, Copy)]
 pub struct Taken {
     pub answer: Answer,
     pub rows: u64,

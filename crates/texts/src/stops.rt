@@ -1,16 +1,16 @@
 // Whether the reading stops: what is there of a text shows a fault already, so that nothing that comes after it can change the answer.
 ghost use Rattle.std.specs.Prelude.{◌≡◌, false, ◌+◌, ◌≤◌, length, take, drop};
-ghost use Rattle.hex.specs.Line.{undigit, unframed};
+ghost use Rattle.hexadecimal.specs.Line.{undigit, unframed};
 ghost use Rattle.texts.specs.MatrixText.{rest_of};
 ghost use Rattle.texts.specs.Stops.{line_stops, rows_stop, matrix_stops, stops};
 
 use super::read::size_in;
 use buffers::planes::planes;
-use hex::line::{undigit, unframed};
+use hexadecimal::line::{undigit, unframed};
 use requests::word;
 
 // Whether a matrix stops the reading, and the place in the text where what comes after it begins.
-#[derive(Drop)]
+#[derive(Clone, Copy)]
 struct Looked {
     stops: bool,
     end: usize,

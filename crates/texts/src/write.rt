@@ -8,7 +8,7 @@ ghost use Rattle.texts.specs.Multiply.{refusal, frames_of, placed};
 use buffers::planes::planes;
 use frames::header::write_header;
 use frames::row_line::write_row;
-use hex::line::put;
+use hexadecimal::line::put;
 use requests::Size;
 
 // The word refused, a space, the number as two digits, byte 10.

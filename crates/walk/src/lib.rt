@@ -1,4 +1,6 @@
 // Walks the list of row steps over buffers: counts it, finds a place in it by counting, and carries out steps.
+#![tactic(auto)]
+
 pub mod blocks;
 pub mod count;
 mod piece;
@@ -9,7 +11,7 @@ mod table_part;
 pub mod whole;
 
 // The sizes of a product of an m by l and an l by n matrix, and the width of its blocks.
-#[derive(Drop)]
+#[derive(Clone, Copy)]
 pub struct Shape {
     pub m: usize,
     pub l: usize,
@@ -18,7 +20,7 @@ pub struct Shape {
 }
 
 // What is left of a turn: steps to skip, since they were made before, and steps that may be made.
-#[derive(Drop)]
+#[derive(Clone, Copy)]
 pub struct Left {
     pub skip: u64,
     pub budget: u64,

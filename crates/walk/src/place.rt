@@ -6,7 +6,7 @@ ghost use Rattle.walk.specs.Place.{StandsAt};
 
 use super::count::block_count;
 
-#[derive(Drop)]
+#[derive(Clone, Copy)]
 pub struct Standing {
     pub total: u64,
     pub block: u64,

@@ -1,2 +1,4 @@
 // Words as bytes.
+#![tactic(auto)]
+
 pub mod bytes;

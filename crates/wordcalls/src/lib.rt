@@ -1,5 +1,7 @@
 // The requests of the library as calls over words, for hosts to link. Each contract says what a host sees after the call, in the words of
 // the demands and without the request's own statement: a request whose contract says less no longer proves its caller.
+#![tactic(auto)]
+
 pub mod check;
 pub mod combination;
 pub mod negation;

@@ -1,3 +1,0 @@
-// Hexadecimal digits and lines of them. What calls it knows how long its lines are and that they hold digits, so its functions require that.
-pub mod digit;
-pub mod line;

@@ -1,0 +1,26 @@
+use mathlib.Core.Path.{sym, ◌∙◌}
+use lib.ListN.{length}
+use Rattle.cells.proofs.AnyLaws.{or_left}
+use Rattle.requests.specs.Answers.{first}
+use Rattle.requests.specs.Sizes.{unfit}
+use Rattle.matrix.specs.Unpacked.{unlike}
+use Rattle.matrix.specs.Unpack.{unpack_tests}
+use Rattle.matrix.proofs.unpack.judged.Goals as goal
+
+pub returns-then-over : goal.returns-then-over
+unfolding unpack_tests first
+returns-then-over c = rw (sym c.over.ensures ∙ c.if-over.true)
+
+pub either_unfit-requires : goal.either_unfit-requires
+either_unfit-requires c = sym c.over.ensures ∙ c.if-over.false
+
+pub returns-then-either_unfit : goal.returns-then-either_unfit
+unfolding unpack_tests first
+returns-then-either_unfit c = rw (sym c.over.ensures ∙ c.if-over.false, sym c.either_unfit.ensures ∙ c.if-either_unfit.true)
+
+pub fault-requires : goal.fault-requires
+fault-requires c = (sym c.over.ensures ∙ c.if-over.false, or_left (unfit c.args.s (length c.args.a.now)) (unlike c.args.s c.args.n) (sym c.either_unfit.ensures ∙ c.if-either_unfit.false))
+
+pub returns : goal.returns
+unfolding unpack_tests first
+returns c = rw (sym c.over.ensures ∙ c.if-over.false, sym c.either_unfit.ensures ∙ c.if-either_unfit.false) c.fault.ensures

@@ -1,0 +1,16 @@
+use Rattle.cells.specs.Digit.{combine}
+use Rattle.rows.proofs.PartLaws.{lent, returned, own}
+use native.Mathlib.Omega.{arith}
+use Rattle.rows.proofs.add.add.Goals as goal
+
+pub one-requires : goal.one-requires
+one-requires c = (c.if-q-eq1.true, lent (own c.requires.0 c.requires.1) 0 (omega arith), omega arith)
+
+pub returns-then-q-eq1 : goal.returns-then-q-eq1
+returns-then-q-eq1 c = returned (own c.requires.0 c.requires.1) 0 (omega arith) (combine 1) c.one.ensures
+
+pub add_row-requires : goal.add_row-requires
+add_row-requires c = lent (own c.requires.0 c.requires.1) 0 (omega arith)
+
+pub returns : goal.returns
+returns c = returned (own c.requires.0 c.requires.1) 0 (omega arith) (combine 1) c.add_row.ensures

@@ -1,0 +1,16 @@
+use mathlib.Core.Path.{◌≡◌}
+use Prim.Native.Nat.{◌-◌, ◌≤◌}
+use lib.ListN.{length}
+use Rattle.cells.specs.Digit.{Matrix}
+use Rattle.buffers.specs.Buffer.{cell, Legal}
+use Rattle.steps.specs.StepList.{each, row_steps}
+use Rattle.steps.specs.Turn.{due}
+use Rattle.walk.specs.Spent.{Spent}
+use Rattle.walk.specs.Ran.{Ran}
+use Rattle.walk.proofs.rows_part.rows_part.Given as goal
+
+abbrev pub invariant-loop-i : goal.invariant-loop-i
+invariant-loop-i l = (l.i ≤ l.shape.m) × Spent l.initial.rest (length (each 0 l.i (row_steps (cell l.shape.l l.a) l.s l.w))) l.rest × ((B : Matrix) → Ran l.shape.width l.shape.m l.shape.n B (due l.initial.rest.skip l.initial.rest.budget (each 0 l.i (row_steps (cell l.shape.l l.a) l.s l.w))) l.table l.initial.product l.table l.product) × (length l.product ≡ length l.initial.product) × Legal l.shape.m l.shape.n l.product
+
+abbrev pub decreases-loop-i : goal.decreases-loop-i
+decreases-loop-i l = l.shape.m - l.i
