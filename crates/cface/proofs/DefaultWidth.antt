@@ -3,8 +3,7 @@
 use mathlib.Core.Path.{◌≡◌}
 use mathlib.Core.List.{List}
 use Prim.Native.Nat.{ℕ, ◌≤◌, min}
-use lib.ListN.{length}
-use Rattle.buffers.specs.Buffer.{words, cell, encode}
+use Rattle.buffers.specs.Buffer.{cell, encode}
 use Rattle.requests.specs.declared.Size.{Size}
 use Rattle.steps.specs.Matrix.{schoolbook}
 use Rattle.steps.specs.Count.{quote}

@@ -1,5 +1,7 @@
 // Runs what document 01 lists without a star, one line each: a label and what came back; then refusals with their places. The file stdout has what the
 // document says.
+#![tactic(auto)]
+
 mod empty;
 mod jobs;
 mod limits;
@@ -9,25 +11,29 @@ mod tallies;
 mod widths;
 mod witness;
 
-fn main() {
-    limits::sizes();
-    limits::padding();
-    empty::matrices();
-    empty::bytes();
-    empty::tally();
-    tallies::all_levels();
-    tallies::no_low_level();
-    widths::quotes();
-    jobs::quotes();
-    widths::squares();
-    widths::edges();
-    widths::asked();
-    witness::quotes_met();
-    jobs::no_middle();
-    jobs::no_columns();
-    places::of_one();
-    places::beyond_a_word();
-    places::of_two();
-    places::of_digits();
-    places::of_a_turn();
+use std::io;
+
+fn main(rt: HostRuntime) -> io::Result<()> {
+    let stdout = rt.stdout();
+    limits::sizes(stdout)?;
+    limits::padding(stdout)?;
+    empty::matrices(stdout)?;
+    empty::bytes(stdout)?;
+    empty::tally(stdout)?;
+    tallies::all_levels(stdout)?;
+    tallies::no_low_level(stdout)?;
+    widths::quotes(stdout)?;
+    jobs::quotes(stdout)?;
+    widths::squares(stdout)?;
+    widths::edges(stdout)?;
+    widths::asked(stdout)?;
+    witness::quotes_met(stdout)?;
+    jobs::no_middle(stdout)?;
+    jobs::no_columns(stdout)?;
+    places::of_one(stdout)?;
+    places::beyond_a_word(stdout)?;
+    places::of_two(stdout)?;
+    places::of_digits(stdout)?;
+    places::of_a_turn(stdout)?;
+    Ok(())
 }

@@ -1,9 +1,10 @@
 // A line: a label, and a number as eight decimal digits.
-use libc::STDOUT_FILENO;
 use requests::Answer;
+use std::io;
+use std::io::{Stdout, Write};
 
-pub fn value(label: &[u8], n: u64) {
-    io::write_all(STDOUT_FILENO, label);
+pub fn value(mut stdout: Stdout, label: &[u8], n: u64) -> io::Result<()> {
+    stdout.write_all(label)?;
     let digits = [
         32u8,
         (48 + n / 10000000 % 10) as u8,
@@ -16,9 +17,9 @@ pub fn value(label: &[u8], n: u64) {
         (48 + n % 10) as u8,
         10u8,
     ];
-    io::write_all(STDOUT_FILENO, &digits);
+    stdout.write_all(&digits)
 }
 
-pub fn answer(label: &[u8], a: Answer) {
-    value(label, requests::number(a));
+pub fn answer(stdout: Stdout, label: &[u8], a: Answer) -> io::Result<()> {
+    value(stdout, label, requests::number(a))
 }

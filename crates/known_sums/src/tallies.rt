@@ -4,16 +4,19 @@ ghost use Rattle.std.specs.Prelude.{◌≤◌};
 
 use super::show::{answer, value};
 use requests::Size;
+use std::io;
+use std::io::Stdout;
 
-pub fn tally(label: &[u8], columns: u64, row: &[u64]) {
+pub fn tally(stdout: Stdout, label: &[u8], columns: u64, row: &[u64]) -> io::Result<()> {
     let t = matrix::tally::tally(columns, row);
     let said = t.answer;
-    answer(label, said);
+    answer(stdout, label, said)?;
     let counts = t.counts;
-    value(b"  zeros:", counts[0]);
-    value(b"  ones:", counts[1]);
-    value(b"  twos:", counts[2]);
-    value(b"  balanced:", t.balanced as u64);
+    value(stdout, b"  zeros:", counts[0])?;
+    value(stdout, b"  ones:", counts[1])?;
+    value(stdout, b"  twos:", counts[2])?;
+    value(stdout, b"  balanced:", t.balanced as u64)?;
+    Ok(())
 }
 
 // The level after this one; after the highest, the lowest.
@@ -39,7 +42,13 @@ fn fill(cells: &mut [u8], lowest: u8)
     }
 }
 
-fn packed(label: &[u8], lowest: u8, cells: &mut [u8], row: &mut [u64])
+fn packed(
+    stdout: Stdout,
+    label: &[u8],
+    lowest: u8,
+    cells: &mut [u8],
+    row: &mut [u64],
+) -> io::Result<()>
     requires { lowest ≤ 2 }
 {
     fill(cells, lowest);
@@ -48,31 +57,41 @@ fn packed(label: &[u8], lowest: u8, cells: &mut [u8], row: &mut [u64])
         columns: cells.len() as u64,
     };
     matrix::pack::pack(s, cells, row);
-    tally(label, s.columns, row);
+    tally(stdout, label, s.columns, row)?;
+    Ok(())
 }
 
-fn in_turn(label: &[u8], lowest: u8, columns: usize, words: usize)
+fn in_turn(stdout: Stdout, label: &[u8], lowest: u8, columns: usize, words: usize) -> io::Result<()>
     requires { (lowest ≤ 2) × (columns ≤ 1023) × (words ≤ 32) }
 {
     let mut cells = [0u8; 1023];
     let mut row = [0u64; 32];
-    packed(label, lowest, &mut cells[0..columns], &mut row[0..words]);
+    packed(
+        stdout,
+        label,
+        lowest,
+        &mut cells[0..columns],
+        &mut row[0..words],
+    )?;
+    Ok(())
 }
 
-pub fn all_levels() {
-    in_turn(b"0 1 2 in 3 columns:", 0, 3, 2);
-    in_turn(b"0 1 2 in 4 columns:", 0, 4, 2);
-    in_turn(b"0 1 2 in 64 columns:", 0, 64, 2);
-    in_turn(b"0 1 2 in 65 columns:", 0, 65, 4);
-    in_turn(b"0 1 2 in 192 columns:", 0, 192, 6);
-    in_turn(b"0 1 2 in 1023 columns:", 0, 1023, 32);
+pub fn all_levels(stdout: Stdout) -> io::Result<()> {
+    in_turn(stdout, b"0 1 2 in 3 columns:", 0, 3, 2)?;
+    in_turn(stdout, b"0 1 2 in 4 columns:", 0, 4, 2)?;
+    in_turn(stdout, b"0 1 2 in 64 columns:", 0, 64, 2)?;
+    in_turn(stdout, b"0 1 2 in 65 columns:", 0, 65, 4)?;
+    in_turn(stdout, b"0 1 2 in 192 columns:", 0, 192, 6)?;
+    in_turn(stdout, b"0 1 2 in 1023 columns:", 0, 1023, 32)?;
+    Ok(())
 }
 
-pub fn no_low_level() {
-    in_turn(b"1 2 in 3 columns:", 1, 3, 2);
-    in_turn(b"1 2 in 4 columns:", 1, 4, 2);
-    in_turn(b"1 2 in 64 columns:", 1, 64, 2);
-    in_turn(b"1 2 in 65 columns:", 1, 65, 4);
-    in_turn(b"1 2 in 192 columns:", 1, 192, 6);
-    in_turn(b"1 2 in 1023 columns:", 1, 1023, 32);
+pub fn no_low_level(stdout: Stdout) -> io::Result<()> {
+    in_turn(stdout, b"1 2 in 3 columns:", 1, 3, 2)?;
+    in_turn(stdout, b"1 2 in 4 columns:", 1, 4, 2)?;
+    in_turn(stdout, b"1 2 in 64 columns:", 1, 64, 2)?;
+    in_turn(stdout, b"1 2 in 65 columns:", 1, 65, 4)?;
+    in_turn(stdout, b"1 2 in 192 columns:", 1, 192, 6)?;
+    in_turn(stdout, b"1 2 in 1023 columns:", 1, 1023, 32)?;
+    Ok(())
 }

@@ -1,5 +1,4 @@
 use mathlib.Core.Path.{refl, ◌∙◌}
-use Prim.Native.Nat.{◌-◌}
 use Rattle.rows.proofs.RowLaws.{made_readable}
 use native.Mathlib.Omega.{arith}
 use Rattle.bench.proofs.row_steps.repeat_add.Goals as goal

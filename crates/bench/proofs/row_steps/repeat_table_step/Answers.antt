@@ -1,5 +1,5 @@
 use mathlib.Core.Path.{refl, ◌∙◌}
-use Prim.Native.Nat.{◌*◌, ◌-◌}
+use Prim.Native.Nat.{◌*◌}
 use Rattle.rows.proofs.RowLaws.{still_readable}
 use native.Mathlib.Omega.{arith}
 use Rattle.bench.proofs.row_steps.repeat_table_step.Goals as goal

@@ -2,7 +2,6 @@ use mathlib.Core.Path.{sym, ◌∙◌}
 use Prim.Native.Nat.{◌+◌}
 use Rattle.requests.specs.Answers.{first}
 use Rattle.requests.proofs.AnswerLaws.{refused, finished}
-use Rattle.requests.specs.Sizes.{over}
 use Rattle.frames.specs.Header.{read_header_tests, read_header_means}
 use Rattle.hexadecimal.proofs.HexLaws.{framed}
 use Rattle.frames.proofs.HeaderLaws.{header_read, header_over}

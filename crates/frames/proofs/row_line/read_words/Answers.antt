@@ -1,5 +1,5 @@
 use mathlib.Core.Path.{refl}
-use Prim.Native.Nat.{◌+◌, ◌-◌, ◌*◌}
+use Prim.Native.Nat.{◌+◌, ◌*◌}
 use lib.ListN.{length, length-set}
 use Rattle.hexadecimal.specs.Line.{value_of}
 use Rattle.hexadecimal.proofs.LineLaws.{filled_none, filled_next}

@@ -3,7 +3,6 @@ use borrow.Author.Tests.{eq-eqb, ne_eqb, lt-ltb, le-ltb}
 use Rattle.requests.specs.Answers.{first}
 use Rattle.buffers.specs.Buffer.{wide}
 use Rattle.buffers.proofs.SizeLaws.{planes_le}
-use Rattle.hexadecimal.specs.Line.{unframed}
 use Rattle.frames.specs.RowLine.{read_row_tests}
 use native.Mathlib.Omega.{arith}
 use Rattle.frames.proofs.row_line.readable.Goals as goal

@@ -1,5 +1,4 @@
 use mathlib.Core.Path.{sym, ◌∙◌}
-use Prim.Native.Nat.{◌-◌}
 use lib.ListN.{length, length-set}
 use Rattle.hexadecimal.specs.Digit.{nibble}
 use Rattle.hexadecimal.proofs.LineLaws.{filled_none, filled_next}

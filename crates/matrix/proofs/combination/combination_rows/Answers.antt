@@ -1,5 +1,4 @@
 use mathlib.Core.Path.{◌≡◌, ◌∙◌}
-use Prim.Native.Nat.{◌-◌}
 use Rattle.cells.specs.Digit.{combine}
 use Rattle.matrix.specs.Combination.{combination_of}
 use Rattle.buffers.proofs.SizeLaws.{planes_le, words_le, row_fits}

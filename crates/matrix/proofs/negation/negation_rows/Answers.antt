@@ -1,5 +1,4 @@
 use mathlib.Core.Path.{◌≡◌, refl, ◌∙◌}
-use Prim.Native.Nat.{◌-◌}
 use Rattle.cells.specs.Digit.{neg3}
 use Rattle.matrix.specs.Negation.{negation_of}
 use Rattle.buffers.proofs.SizeLaws.{planes_le, words_le, row_fits}

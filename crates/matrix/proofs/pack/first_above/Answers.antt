@@ -1,5 +1,3 @@
-use mathlib.Core.Bool.{false}
-use Prim.Native.Nat.{◌-◌}
 use native.Mathlib.Omega.{arith}
 use Rattle.matrix.proofs.PackLaws.{above_begin, above_next, above_beyond, above_stop}
 use Rattle.matrix.proofs.pack.first_above.Goals as goal

@@ -1,5 +1,4 @@
 use mathlib.Core.Path.{◌≡◌, ◌∙◌}
-use Prim.Native.Nat.{◌-◌}
 use Rattle.buffers.proofs.SizeLaws.{planes_le, words_le, row_fits}
 use Rattle.rows.proofs.MatrixLaws.{rows_none, rows_more}
 use Rattle.matrix.specs.Pack.{pack_of}

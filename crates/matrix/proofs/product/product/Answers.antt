@@ -4,7 +4,6 @@ use Prim.Native.Nat.{ℕ}
 use lib.ListN.{length}
 use Rattle.requests.proofs.AnswerLaws.{refused, finished}
 use Rattle.requests.proofs.SizeLaws.{not_over}
-use Rattle.matrix.specs.Job.{meant}
 use Rattle.matrix.specs.Product.{end_of, product_means}
 use Rattle.matrix.proofs.JobLaws.{meant_pos, meant_le, opening_ready}
 use native.Mathlib.Omega.{arith}

@@ -1,5 +1,4 @@
 use mathlib.Core.Path.{◌≡◌, ◌∙◌}
-use Prim.Native.Nat.{◌-◌}
 use Rattle.cells.specs.Digit.{mul3}
 use Rattle.matrix.specs.Scaling.{scaling_of}
 use Rattle.buffers.proofs.SizeLaws.{planes_le, words_le, row_fits}

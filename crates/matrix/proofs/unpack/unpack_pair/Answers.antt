@@ -1,5 +1,5 @@
 use mathlib.Core.Path.{◌≡◌, subst}
-use Prim.Native.Nat.{ℕ, ◌-◌}
+use Prim.Native.Nat.{ℕ}
 use Rattle.cells.specs.Bit.{bit}
 use Rattle.cells.specs.Pair.{digit}
 use Rattle.rows.specs.Row.{Written}

@@ -1,4 +1,3 @@
-use Prim.Native.Nat.{◌-◌}
 use Rattle.buffers.proofs.SizeLaws.{planes_le, planes_tight}
 use Rattle.matrix.proofs.UnpackLaws.{row_none, row_more, row_all}
 use native.Mathlib.Omega.{arith}

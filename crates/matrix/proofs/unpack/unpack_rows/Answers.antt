@@ -1,5 +1,4 @@
 use mathlib.Core.Path.{◌≡◌}
-use Prim.Native.Nat.{◌-◌}
 use Rattle.matrix.specs.Unpack.{unpack_of}
 use Rattle.buffers.proofs.SizeLaws.{planes_le, words_le, row_fits}
 use Rattle.matrix.proofs.PackLaws.{cells_le, cells_in}

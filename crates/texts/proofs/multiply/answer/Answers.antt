@@ -4,7 +4,6 @@ use lib.ListN.{length, take, drop, length-take, length-drop, length-append}
 use lib.Seq.{take_at}
 use Rattle.buffers.specs.Buffer.{wide, words}
 use Rattle.buffers.proofs.BufferLaws.{encode_legal}
-use Rattle.requests.specs.Answers.{word}
 use Rattle.texts.proofs.MultiplyLaws.{refusal_printed, form_refused, multiply_tests_lem, product_printed}
 use native.Mathlib.Omega.{arith}
 use Rattle.texts.proofs.multiply.answer.Goals as goal

@@ -1,6 +1,6 @@
 use mathlib.Core.Path.{ap}
 use Prim.Native.Nat.{ℕ, ◌*◌}
-use Rattle.buffers.specs.Buffer.{planes, wide, words}
+use Rattle.buffers.specs.Buffer.{wide, words}
 use Rattle.texts.proofs.TextLaws.{few_words}
 use native.Mathlib.Omega.{arith}
 use Rattle.texts.proofs.multiply.long.Goals as goal

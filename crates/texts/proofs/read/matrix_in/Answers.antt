@@ -2,7 +2,6 @@ use mathlib.Core.Path.{◌≡◌, refl, sym, ap, ◌∙◌}
 use Prim.Native.Nat.{ℕ, ◌-◌, ◌*◌}
 use lib.ListN.{drop, length-take, length-drop}
 use Rattle.buffers.specs.Buffer.{wide, words}
-use Rattle.requests.specs.Answers.{word}
 use Rattle.frames.specs.RowLine.{line_long}
 use Rattle.texts.proofs.TextLaws.{head_few, head_narrow, head_refused, head_within, few_words}
 use Rattle.texts.proofs.FoundLaws.{found_misread, found_none, found}

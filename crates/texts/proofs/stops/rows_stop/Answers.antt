@@ -1,6 +1,4 @@
 use mathlib.Core.Path.{◌≡◌, sym, ◌∙◌}
-use mathlib.Core.Bool.{false}
-use Prim.Native.Nat.{◌-◌}
 use lib.ListN.{drop}
 use native.Mathlib.Omega.{arith}
 use Rattle.buffers.proofs.SizeLaws.{planes_le}
