@@ -52,8 +52,7 @@ fn check_room(s: Size, a: &[u8]) -> u64
     check_part(s, a, &mut words)
 }
 
-#[unsafe(no_mangle)]
-pub extern "C" fn nyuzolamba_check(rows: u64, columns: u64, a: &[u8]) -> u64
+pub fn nyuzolamba_check(rows: u64, columns: u64, a: &[u8]) -> u64
     ensures { result ≡ check_face (record { rows = rows; columns = columns }) a.now }
 {
     let s = Size {

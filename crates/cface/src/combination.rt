@@ -62,8 +62,7 @@ fn combination_room(x: Size, y: Size, d: u64, a: &[u8], b: &[u8], out: &mut [u8]
     combination_parts(x, y, d, a, b, out, &mut u, &mut v, &mut w)
 }
 
-#[unsafe(no_mangle)]
-pub extern "C" fn nyuzolamba_combination(
+pub fn nyuzolamba_combination(
     a_rows: u64,
     a_columns: u64,
     b_rows: u64,

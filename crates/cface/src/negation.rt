@@ -68,8 +68,7 @@ fn negation_room(s: Size, a: &[u8], out: &mut [u8]) -> u64
     negation_parts(s, a, out, &mut u, &mut w)
 }
 
-#[unsafe(no_mangle)]
-pub extern "C" fn nyuzolamba_negation(rows: u64, columns: u64, a: &[u8], out: &mut [u8]) -> u64
+pub fn nyuzolamba_negation(rows: u64, columns: u64, a: &[u8], out: &mut [u8]) -> u64
     ensures { (result, out.new) ≡ negation_face (record { rows = rows; columns = columns }) a.now out.old }
 {
     let s = Size {

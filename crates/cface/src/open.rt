@@ -137,8 +137,7 @@ fn open_room(
     )
 }
 
-#[unsafe(no_mangle)]
-pub extern "C" fn nyuzolamba_open(
+pub fn nyuzolamba_open(
     a_rows: u64,
     a_columns: u64,
     b_rows: u64,

@@ -122,8 +122,7 @@ fn product_room(x: Size, y: Size, k: u64, a: &[u8], b: &[u8], out: &mut [u8]) ->
     product_parts(x, y, k, a, b, out, &mut u, &mut v, &mut table, &mut w)
 }
 
-#[unsafe(no_mangle)]
-pub extern "C" fn nyuzolamba_product(
+pub fn nyuzolamba_product(
     a_rows: u64,
     a_columns: u64,
     b_rows: u64,

@@ -137,8 +137,7 @@ fn turn_room(
 }
 
 // A record of another length is refused before it is read.
-#[unsafe(no_mangle)]
-pub extern "C" fn nyuzolamba_turn(
+pub fn nyuzolamba_turn(
     job: &mut [u8],
     a: &[u8],
     b: &[u8],

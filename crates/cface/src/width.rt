@@ -5,8 +5,7 @@ ghost use Rattle.cface.specs.Width.{width_face};
 use super::count::{judged, put_count};
 use requests::{Size, word};
 
-#[unsafe(no_mangle)]
-pub extern "C" fn nyuzolamba_width(a_rows: u64, a_columns: u64, width: u64, out: &mut [u8]) -> u64
+pub fn nyuzolamba_width(a_rows: u64, a_columns: u64, width: u64, out: &mut [u8]) -> u64
     ensures { (result, out.new) ≡ width_face (record { rows = a_rows; columns = a_columns }) width out.old }
 {
     let x = Size {
