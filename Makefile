@@ -7,7 +7,7 @@ PREFIX = /usr/local
 ARCHIVE =
 archive = target/staticlib/libcface.a
 # Folders too: theirs is the time at which a source was taken away or came in under another name.
-sources := $(shell find crates -type d -o -name '*.rt' -o -name '*.antt') crates.txt
+sources := crates $(shell find crates/*/src crates/*/specs crates/*/proofs -type d -o -name '*.rt' -o -name '*.antt' 2>/dev/null) crates.txt
 
 # The script gets names as they were typed. Make would cut them at spaces and read dollar signs in them.
 unexport PREFIX DESTDIR ARCHIVE
@@ -26,8 +26,8 @@ checked:
 $(archive): $(sources) | $(if $(filter install,$(MAKECMDGOALS)),checked)
 	@bash -c '. hosts/kit.sh && have_rt'
 	@mkdir -p target && touch target/archive-began
-	rt staticlib cface
-	@touch -r target/archive-began $@
+	cd crates/cface_c && rt lib
+	@mkdir -p $(@D) && cp crates/cface_c/out/libcface_c.a $@ && touch -r target/archive-began $@
 
 install: checked $(if $(value ARCHIVE),,$(archive))
 	@include/install install

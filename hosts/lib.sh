@@ -112,20 +112,25 @@ build_rust() {
 
 # up_to_date FILE: it is there, and no source of the crates is newer.
 up_to_date() {
-    [ -f "$1" ] && [ -z "$(find "$root/crates" "$root/crates.txt" \( -name '*.rt' -o -name '*.antt' -o -name crates.txt \) -newer "$1" -print -quit)" ]
+    [ -f "$1" ] && [ -z "$(find "$root/crates" "$root/crates.txt" -name out -prune -o \( -name '*.rt' -o -name '*.antt' -o -name crates.txt \) -newer "$1" -print -quit)" ]
 }
 
-# staticlib CRATE: proves a crate and makes its archive.
-staticlib() {
-    (cd "$root" && rt staticlib "$1") >"$out/staticlib-$1.log" 2>&1 || { tail -n 20 "$out/staticlib-$1.log" >&2; return 1; }
+# made_archive CRATE FILE: proves a crate and makes its archive. Its time is that at which the proof began: a source that was changed since then is newer.
+made_archive() {
+    local log=$out/archive-$1.log
+    : >"$log" && : >"$log.began" && have_rt && mkdir -p "$(dirname "$2")" || return 1
+    (cd "$root/crates/$1" && rt lib) >"$log" 2>&1 && cp "$root/crates/$1/out/lib$1.a" "$2" && touch -r "$log.began" "$2" || {
+        tail -n 20 "$log" >&2
+        return 1
+    }
 }
 
 # The archive of the C face, unless NYUZOLAMBA_ARCHIVE names one.
-make_archive() { [ -n "${NYUZOLAMBA_ARCHIVE:-}" ] || staticlib cface; }
+make_archive() { [ -n "${NYUZOLAMBA_ARCHIVE:-}" ] || made_archive cface_c "$archive"; }
 have_archive() { up_to_date "$archive" || make_archive; }
 
 # That of the requests over words, unless NYUZOLAMBA_WORDCALLS names one.
-make_word_archive() { [ -n "${NYUZOLAMBA_WORDCALLS:-}" ] || staticlib wordcalls; }
+make_word_archive() { [ -n "${NYUZOLAMBA_WORDCALLS:-}" ] || made_archive wordcalls "$word_archive"; }
 have_word_archive() { up_to_date "$word_archive" || make_word_archive; }
 
 # The tool between digits and text, for this machine: made if it is missing or older than its sources, beside and then moved, since others may run it.

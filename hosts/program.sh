@@ -39,71 +39,49 @@ make_program() {
 
 # make_locked WHY: with a line on standard error as each of its crates ends.
 make_locked() {
-    local crates ended=0 start=$SECONDS began=$out/program.began unproved=()
-    crates=$(crates_of multiply) || return 1
+    local all crates ended=0 start=$SECONDS began=$out/program.began name took word
+    all=$(crates_of multiply) || return 1
+    crates=$(wc -w <<<"$all")
     echo "$1: its $crates crates are proved and it is built, this once; from nothing that takes some minutes" >&2
-    : >"$began" || return 1
-    # rt goes by its stamps and not by what is there: with a stamp and without the program it would make none.
-    [ -f "$built" ] || rm -f "$root/target/stamp/multiply"
-    if follow "$root" "$out/program.log" progress check multiply && [ -f "$built" ]; then
-        # rt goes by content: where nothing has changed it leaves the program's time as it was, and that would be older than a source for ever.
-        touch -r "$began" "$built"
-        echo "multiply is proved and built, after $((SECONDS - start)) s" >&2
-    else
-        # A program that was made, and whose run then failed, is no program.
-        [ ! "$built" -nt "$began" ] || rm -f "$built"
-        why_not_made >&2
-        return 1
-    fi
+    : >"$began" && rm -f "$built" && mkdir -p "$(dirname "$built")" || return 1
+    for name in $all; do
+        word=lib took=$SECONDS
+        # A program is proved, built and then run, here on an empty input.
+        [ "$name" = multiply ] && word=run
+        ended=$((ended + 1))
+        follow "$root/crates/$name" "$out/program.log" : "$word" || { why_not_made "$name" >&2; return 1; }
+        progress "$name" "proved ($((SECONDS - took)) s): $(purpose "$name")" >&2
+    done
+    cp "$root/crates/multiply/out/multiply" "$built.made" && touch -r "$began" "$built.made" && mv "$built.made" "$built" || return 1
+    echo "multiply is proved and built, after $((SECONDS - start)) s" >&2
 }
 
-# crates_of NAME: how many crates of crates.txt NAME is made of, with itself.
+# progress NAME WORD..: how many crates have ended, the seconds so far, and what became of this one.
+progress() { printf '%3d of %d, %3d s: %s\n' "$ended" "$crates" $((SECONDS - start)) "$*"; }
+
+# crates_of NAME: the crates of crates.txt that NAME is made of, and NAME: each behind those that it uses.
 crates_of() {
     awk -v name="$1" '
         { sub(/#.*/, "") }
-        split($0, part, ":") == 2 { gsub(/[ \t]/, "", part[1]); below[part[1]] = part[2] }
-        END {
-            n = 1
-            list[1] = name
-            for (i = 1; i <= n; i++) {
-                if (!(list[i] in below) || seen[list[i]]++) continue
-                count++
-                m = split(below[list[i]], more, " ")
-                for (k = 1; k <= m; k++) list[++n] = more[k]
-            }
-            print count + 0
-        }' "$root/crates.txt"
-}
-
-# progress LINE: what rt says of a crate at its end, with how many have ended, the seconds so far, and what the crate is for.
-progress() {
-    local form='^rt: ([A-Za-z0-9_]+) (proved|NOT PROVED)( \(([0-9]+ s)\)$| \(unchanged|[ :])'
-    if ! [[ $1 =~ $form ]]; then
-        # Beside the crates rt says how the program's run went, and at last 'ok' or 'FAILED', which our own last line says.
-        case $1 in *' run FAILED '*) printf '%s\n' "${1#rt: }" >&2 ;; esac
-        return 0
-    fi
-    local name=${BASH_REMATCH[1]} verdict=${BASH_REMATCH[2]} took=${BASH_REMATCH[4]:-unchanged}
-    ended=$((ended + 1))
-    if [ "$verdict" = proved ]; then
-        printf '%3d of %d, %3d s: %s proved (%s): %s\n' "$ended" "$crates" $((SECONDS - start)) "$name" "$took" "$(purpose "$name")"
-    else
-        printf '%3d of %d, %3d s: %s\n' "$ended" "$crates" $((SECONDS - start)) "${1#rt: }"
-        case $1 in *': its dependency '*) ;; *) unproved+=("$name") ;; esac
-    fi >&2
+        split($0, part, ":") == 2 { split(part[1], word, " "); below[word[1]] = part[2] }
+        function visit(crate,   list, count, i) {
+            if (!(crate in below) || seen[crate]++) return
+            count = split(below[crate], list, " ")
+            for (i = 1; i <= count; i++) visit(list[i])
+            print crate
+        }
+        END { visit(name) }' "$root/crates.txt"
 }
 
 # purpose CRATE: what its source begins with, up to the first full stop or colon.
 purpose() { sed -n '1{s,^// *,,;s/[.:].*//;p;q}' "$root/crates/$1/src/"{lib,main}.rt 2>/dev/null; }
 
 # The first lines of what stood in the way, and where the rest is.
-why_not_made() {
-    local name errors
-    for name in "${unproved[@]}"; do
-        errors=$(grep -m 3 ': error' "$root/target/log/$name.out" || grep -v '^rt: ' "$root/target/log/$name.out" | head -n 3)
-        printf '%s:\n' "$name"
-        printf '%s\n' "${errors//"$root/"/}" | cut -c 1-300 | sed 's/^/    /'
-    done
-    [ ${#unproved[@]} -gt 0 ] || tail -n 5 "$out/program.log"
+why_not_made() { # NAME
+    local errors
+    progress "$1" "NOT PROVED ($((SECONDS - took)) s)"
+    errors=$(grep -m 3 ': error' "$out/program.log" || grep -v '^rt: ' "$out/program.log" | head -n 3)
+    printf '%s:\n' "$1"
+    printf '%s\n' "${errors//"$root/"/}" | cut -c 1-300 | sed 's/^/    /'
     echo "multiply is not built; all that rt said is in $out/program.log"
 }

@@ -5,22 +5,19 @@ stub() {
     cat >"$room/stub/rt" <<'END'
 #!/usr/bin/env bash
 here=$(dirname "$0")
-case $1 in ci | check) ;; *) exit 0 ;; esac
+case $1 in ci | lib | run) ;; *) exit 0 ;; esac
+# Of the crates of multiply the first is proved at once.
+[ "$1" = ci ] || [ "${PWD##*/}" != cells ] || exit 0
 # Long enough for a look at what an earlier run has left.
 sleep 1
-mkdir -p target/log target/must-fail/cells target/bin
-[ "$1" = check ] || rm -f target/log/*
-echo 'rt: cells proved (1 s)' >target/log/cells.out
-echo 'rt: must-fail cells/one: refused, as it must be (1 s)' >target/must-fail/cells/one.out
+[ "$1" != ci ] || printf 'rt: cells proved\nrt: cells: must-fail one: refused\n'
 sleep 60 &
 echo "$! $$" >"$here/started"
 # Where a trial differs it may not be told, and the trials end without it.
 until [ -e "$here/go" ] || [ ! -d "$here" ]; do sleep 0.1; done
 kill "$!"
-touch target/bin/multiply
-printf 'a line of the prover: error\nrt: rows NOT PROVED (exit 1, 2 s)\n' >target/log/rows.out
-cat target/log/{cells,rows}.out target/must-fail/cells/one.out
-printf 'rt: ok\n%s\n' "$(cat "$here/counts")"
+printf 'a line of the prover: error\n'
+[ "$1" != ci ] || printf 'rt: rows NOT PROVED\nrt: ok%s\n%s\n' "$(cat "$here/edits")" "$(cat "$here/counts")"
 exit "$(cat "$here/status")"
 END
     chmod +x "$room/stub/rt"
@@ -29,7 +26,7 @@ END
 # started LOG LINE PID: waits until the line is in the log, while the stub still waits.
 started() {
     local times=100
-    until grep -qs -- "$2" "$1"; do
+    until grep -qs -- "$2" "$1" && [ -e "$room/stub/started" ]; do
         [ $((times -= 1)) -gt 0 ] && kill -0 "$3" 2>/dev/null || return 1
         sleep 0.1
     done
@@ -47,40 +44,47 @@ gone() {
     done
 }
 
-# gate COUNTS STATUS LOG: the gate with the stub, and everything beside the proofs left out.
+# gate COUNTS STATUS EDITS LOG: the gate with the stub, and everything beside the proofs left out.
 gate() {
     local pid
     rm -f "$room"/stub/{go,started}
-    echo "$1" >"$room/stub/counts" && echo "$2" >"$room/stub/status"
-    PATH=$room/stub:$PATH bash .ci/run >"$3" 2>&1 </dev/null &
+    echo "$1" >"$room/stub/counts" && echo "$2" >"$room/stub/status" && echo "$3" >"$room/stub/edits"
+    PATH=$room/stub:$PATH bash .ci/run >"$4" 2>&1 </dev/null &
     pid=$!
-    judge "the gate's log has a crate before rt ends" started "$3" '^rt: cells proved (1 s)$' "$pid"
-    judge "the gate's log has a must-fail edit before rt ends" started "$3" '^rt: must-fail cells/one' "$pid"
+    judge "the gate's log has a crate before rt ends" started "$4" '^rt: cells proved$' "$pid"
+    judge "the gate's log has a must-fail edit before rt ends" started "$4" '^rt: cells: must-fail one' "$pid"
     touch "$room/stub/go"
     wait "$pid"
-    judge 'each line once, and at the end the rest' [ "$(grep '^rt: ' "$3" | sort)" = "$(sort <<<"$shown")" ]
+    judge 'each line in its order, and at the end the rest' [ "$(sed -n '/^rt: /p;/ok,/q' "$4" | head -n 4)" = "$shown$3" ]
 }
 
 gates() {
-    local shown=$'rt: cells proved (1 s)\nrt: must-fail cells/one: refused, as it must be (1 s)\nrt: rows NOT PROVED (exit 1, 2 s)\nrt: ok' name part
-    mkdir -p "$room/gate/hosts" "$room/gate/.ci" "$room/gate/target/log" && cd "$room/gate" || exit 1
-    cp "$root"/hosts/*.sh hosts && cp "$root/.ci/run" .ci && echo 'rt: stale proved (9 s)' >target/log/stale.out || exit 1
+    local shown=$'rt: cells proved\nrt: cells: must-fail one: refused\nrt: rows NOT PROVED\nrt: ok' name part
+    mkdir -p "$room/gate/hosts" "$room/gate/.ci" && cd "$room/gate" || exit 1
+    cp "$root"/hosts/*.sh hosts && cp "$root/.ci/run" .ci || exit 1
     for name in .ci/promises .ci/refusals .ci/map hosts/run; do printf '#!/bin/sh\n' >"$name" && chmod +x "$name"; done
-    part=' s  proofs, must-fail edits and programs (rt ci)'
-    gate '4 passed, 0 failed' 0 "$room/right"
-    gate '2 passed, 3 failed' 1 "$room/wrong"
+    part=' s  proofs, layout, must-fail edits and programs (rt ci)'
+    gate '4 passed, 0 failed' 0 ' must-fail edits: 26 refused, 0 bad' "$room/right"
+    gate '2 passed, 3 failed' 1 ' must-fail edits: 26 refused, 0 bad' "$room/wrong"
+    gate '4 passed, 0 failed' 0 ' must-fail edits: 25 refused, 1 bad' "$room/bad"
     judge 'the proofs pass' grep -q "^ *[0-9]*$part$" "$room/right"
     judge 'the proofs fail' grep -q "^ *[0-9]*$part (failed)$" "$room/wrong"
-    # The other parts count alike in both.
-    judge 'they count themselves' awk 'FNR == NR { a = $1; b = $3; next } { c = $1; d = $3 } END { exit !(a - c == 2 && d - b == 3) }' \
-        <(tail -n 1 "$room/right") <(tail -n 1 "$room/wrong")
+    judge 'an edit that does not fit fails' grep -q "^ *[0-9]*$part (failed)$" "$room/bad"
+    # The other parts count alike in all.
+    judge 'they count themselves' counted "$room/wrong" 2 3
+    judge 'a bad edit counts as a failure' counted "$room/bad" 0 1
+}
+
+# counted LOG LESS MORE: so many passed less than where all is right, and so many failed.
+counted() {
+    awk -v less="$2" -v more="$3" 'FNR == NR { a = $1; b = $3; next } { c = $1; d = $3 } END { exit !(a - c == less && d - b == more) }' \
+        <(tail -n 1 "$room/right") <(tail -n 1 "$1")
 }
 
 # building: starts multiply with the stub in the background, in a process group of its own; sets pid.
 building() {
     rm -rf "$room"/stub/{go,started} target
-    mkdir -p target/log target/stamp && touch target/stamp/multiply
-    echo 'rt: texts proved (9 s)' >target/log/texts.out && touch -d '1 hour ago' target/log/texts.out
+    mkdir -p target/hosts && echo 'rt: texts proved' >target/hosts/program.log || exit 1
     echo 1 >"$room/stub/status"
     : >"$room/err"
     set -m
@@ -88,7 +92,7 @@ building() {
     env --default-signal=INT "PATH=$room/stub:$PATH" ./multiply <"$sample" >"$room/out" 2>"$room/err" &
     pid=$!
     set +m
-    judge 'a crate is shown before rt ends' started "$room/err" ' 1 of [0-9]*,.* s: cells proved (1 s): Sixty-four cells at once$' "$pid"
+    judge 'a crate is shown before rt ends' started "$room/err" ' 1 of [0-9]*,.* s: cells proved ([0-9]* s): Sixty-four cells at once$' "$pid"
 }
 
 # ended NAME STATUS PATTERN: it ends so within ten seconds, with nothing printed.
@@ -117,9 +121,8 @@ builds() {
     cd "$room/bare" || exit 1
     building
     touch "$room/stub/go"
-    ended 'rt that fails' 2 $'*\n  2 of *rows NOT PROVED (exit 1, 2 s)\nrows:\n    a line of the prover: error\nmultiply is not built*'
+    ended 'rt that fails' 2 $'*\n  2 of *buffers NOT PROVED (* s)\nbuffers:\n    a line of the prover: error\nmultiply is not built*'
     judge 'a program of a run that failed' [ ! -e target/bin/multiply ]
-    judge 'a stamp without its program' [ ! -e target/stamp/multiply ]
     judge 'nothing of an earlier run' [ "$(grep -c texts "$room/err")" -eq 0 ]
     building
     kill -KILL "$(cut -d ' ' -f 2 "$room/stub/started")"
