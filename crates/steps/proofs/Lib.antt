@@ -4,8 +4,10 @@ pub mod Running
 pub mod Loops
 pub mod Product
 pub mod Counts
+pub mod WitnessCells
 pub mod Witness
 pub mod Most
+pub mod Better
 pub mod Width
 pub mod Fits
 pub mod Kept

@@ -1,12 +1,12 @@
 -- Theorem: no width from 1 to 8 quotes less than the default, every smaller one quotes more, and no other width is like that; the quote without a
 -- loop; how large a default can be. Assumes nothing.
 use mathlib.Core.Path.{◌≡◌, refl, sym, ap, subst, ◌∙◌}
-use mathlib.Core.Bool.{Bool, true, false}
+use mathlib.Core.Bool.{Bool, false}
 use mathlib.Core.Logic.{◌⊎◌, inl, inr}
 use Prim.Native.Nat.{ℕ, zero, suc, ◌+◌, ◌-◌, ◌*◌, ◌/◌, ◌%◌, ◌≤◌, ◌<◌}
 use native.Mathlib.Omega.{arith}
 use native.Mathlib.Nat.{le_refl, zero-add, div-eq_of_lt, add-mul-div_right, div-add-mod', mod-lt, mul-le-mul_right, eq-or-lt_of_le}
-use lib.Dec.{ltb, ltb→lt, nltb→le}
+use lib.Dec.{ltb}
 use borrow.Author.Tests.{ltb-false}
 use Rattle.cells.specs.Any.{any}
 use Rattle.cells.specs.Counts.{sum}
@@ -15,29 +15,7 @@ use Rattle.cells.proofs.SumLaws.{sum_last, sum_same, sum_ext}
 use Rattle.steps.specs.StepList.{blocks, block_width}
 use Rattle.steps.specs.Count.{block_quote, quote}
 use Rattle.steps.specs.Width.{better, cheapest, default_width, Cheapest}
-
--- one more to choose from
-pub better_is : (f : ℕ → ℕ) (n w : ℕ) → Cheapest f n w → Cheapest f (suc n) (better f w (suc n))
-unfolding better
-better_is f n w C = go (ltb (f (suc n)) (f w)) refl
-  where
-    go : (b : Bool) → ltb (f (suc n)) (f w) ≡ b → Cheapest f (suc n) (elim b [ true ↦ suc n | false ↦ w ])
-    go true e =
-        let less : f (suc n) < f w = ltb→lt _ _ (rw e tt) in
-        record {
-          from = omega arith;
-          to = le_refl _;
-          lowest = λ k a b. elim (eq-or-lt_of_le b) [ inl q ↦ rw q (le_refl _) | inr q ↦ omega (arith, less, C.lowest k a (omega arith)) ];
-          first = λ k a b. omega (arith, less, C.lowest k a (omega arith));
-        }
-    go false e =
-        let more : f w ≤ f (suc n) = nltb→le _ _ (rw e tt) in
-        record {
-          from = C.from;
-          to = omega (arith, C.to);
-          lowest = λ k a b. elim (eq-or-lt_of_le b) [ inl q ↦ rw q more | inr q ↦ C.lowest k a (omega arith) ];
-          first = C.first;
-        }
+use Rattle.steps.proofs.Better.{better_is}
 
 pub cheapest_is : (f : ℕ → ℕ) (n : ℕ) → Cheapest f (suc n) (cheapest f n)
 unfolding cheapest

@@ -1,24 +1,19 @@
 -- Theorem: the list of the witness is as long as its quote, at all sizes and widths, so that no lower quote is safe. Assumes nothing.
-use Prim.Native.Nat.{ℕ, zero, suc, ◌+◌, ◌-◌, ◌*◌, ◌%◌, ◌^◌, ◌≤◌, min}
+use Prim.Native.Nat.{ℕ, zero, suc, ◌+◌, ◌-◌, ◌*◌, ◌^◌, ◌≤◌, min}
 use mathlib.Core.Path.{◌≡◌, refl, ap, ◌∙◌}
 use native.Mathlib.Omega.{arith}
-use Rattle.cells.specs.Counts.{is}
-use Rattle.cells.proofs.BitLaws.{bits}
 use Rattle.cells.proofs.SumLaws.{sum_ext, sum_same}
 use Rattle.steps.specs.Matrix.{Digits}
 use Rattle.steps.specs.StepList.{blocks, block_width}
 use Rattle.steps.specs.Count.{block_quote, quote, total, row_count, block_count}
 use Rattle.steps.specs.Witness.{witness, Safe}
+use Rattle.steps.proofs.WitnessCells.{levels}
 use Rattle.steps.proofs.BlockBits.{bits_none, bits_first}
 use Rattle.steps.proofs.Counts.{total_counts, total_le}
 
 pub witness_digits : (m l : ℕ) → Digits m l witness
 unfolding witness
 witness_digits m l i j _ _ = omega arith
-
-levels : (i j : ℕ) → (is (witness i j) 1 ≡ 1 - j % 2) × (is (witness i j) 2 ≡ j % 2)
-unfolding witness is
-levels i j = bits (λ b. (is (1 + b) 1 ≡ 1 - b) × (is (1 + b) 2 ≡ b)) (refl, refl) (refl, refl) (j % 2) (omega arith)
 
 -- of two columns side by side one holds a 1 and the other a 2, so that a row takes as many steps as it is quoted
 row_met : (s w i : ℕ) → row_count witness s w i ≡ min 2 w
