@@ -4,7 +4,7 @@ import re
 from source import leaves, split, unwrapped
 
 # Results that are a word and nothing else, and how a contract names it.
-WORDS = {'Answer': 'word r', 'u64': 'r', 'usize': 'r'}
+WORDS = {'Answer': 'word result', 'u64': 'result', 'usize': 'result'}
 # Results that are enums with values of their own, and the definition that gives word and values for each case, with what is left in the buffers.
 ENUMS = {'Opened': 'opened', 'Turned': 'turned'}
 
@@ -12,12 +12,12 @@ ENUMS = {'Opened': 'opened', 'Turned': 'turned'}
 def outcome(function, structs):
     """All that a function leaves: its word, the other fields of its struct or its whole enum, and what it was lent to be written."""
     if function.returns in ENUMS:
-        result = [ENUMS[function.returns], 'r']
+        result = [ENUMS[function.returns], 'result']
     elif function.returns in structs:
-        result = ['word (r .answer)'] + [f'r .{name}' for name in structs[function.returns] if name != 'answer']
+        result = ['word result.answer'] + [f'result.{name}' for name in structs[function.returns] if name != 'answer']
     else:
         result = [WORDS[function.returns]]
-    return result + [f'now ({name} .exit)' for name, kind in function.parameters if kind.startswith('&mut ')]
+    return result + [f'{name}.new' for name, kind in function.parameters if kind.startswith('&mut ')]
 
 
 def left_parts(left):
@@ -33,7 +33,7 @@ def arguments(function):
         if name.endswith('rows') and names[i + 1:i + 2] == [name[:-4] + 'columns']:
             given.append(f'record {{ rows = {name}; columns = {names[i + 1]} }}')
         elif not (name.endswith('columns') and names[i - 1:i] == [name[:-7] + 'rows']):
-            given.append(f'now ({name} .entry)' if kind.startswith('&') else name)
+            given.append(name + ('.old' if kind.startswith('&mut ') else '.now' if kind.startswith('&') else ''))
     return given
 
 
@@ -51,38 +51,37 @@ def compared(side, found, wanted):
 def contract_faults(function, definition, structs):
     """The contract is one equation: all that the function leaves is the definition of all that it is handed. Nothing is required."""
     kinds = [kind for kind, _ in function.clauses]
-    hidden = {definition, 'word', 'now', 'r', *ENUMS.values()} & {name for name, _ in function.parameters}
+    hidden = {definition, 'word', 'result', *ENUMS.values()} & {name for name, _ in function.parameters}
     if hidden:
         yield f'its parameter {", ".join(sorted(hidden))} hides what its contract is made of'
-    if 'requires' in kinds:
+    if function.requires:
         yield 'it has a requires, and a request has an answer to everything'
     if kinds.count('ensures') != 1 or set(kinds) - {'requires', 'ensures'}:
         yield f'a request has one ensures and nothing else, and this has: {", ".join(kinds) or "nothing"}'
         return
-    equation = re.fullmatch(r'\{ λ r\. ⌜ (.*) ⌝ \}', re.sub('[«»]', '', function.ensures))
-    sides = split(equation[1], '≡') if equation else []
+    sides = split(re.sub('[«»]', '', function.ensures), '≡')
     if len(sides) != 2:
-        yield 'its ensures is not one equation, { λ r. ⌜ .. ≡ .. ⌝ }'
+        yield 'its ensures is not one equation, { .. ≡ .. }'
         return
     if function.returns not in {*WORDS, *ENUMS} and 'answer' not in structs.get(function.returns, []):
         yield f'it gives a {function.returns}, which is no word, no enum with a definition and no struct of its crate with an answer'
         return
+    yield from compared('left', left_parts(sides[0]), outcome(function, structs))
     head, *given = split(sides[1], ' ')
     if head != definition:
         yield f'the right side of its equation is not {definition} of what it is handed'
         return
-    yield from compared('left', left_parts(sides[0]), outcome(function, structs))
     yield from compared('right', [unwrapped(part) for part in given], arguments(function))
 
 
 def own_equation(hypothesis, definitions, bound):
     """The parts on the left, the definition and its arguments, if this is an equation with one of the definitions of variables that all differ."""
     words = split(hypothesis, ' ')
-    left, right = (words[2], unwrapped(words[3])) if words[0] == '_≡_' and len(words) == 4 else (split(hypothesis, '≡') + ['', ''])[:2]
+    left, right = (words[2], unwrapped(words[3])) if words[0] == '◌≡◌' and len(words) == 4 else (split(hypothesis, '≡') + ['', ''])[:2]
     head, *given = split(right, ' ') or ['']
     parts = left_parts(left)
     parts = parts[parts[:1] != [] and parts[0] in ENUMS.values():]
-    variables = [re.fullmatch(r'(?:word )?\(?([^\s().]+)(?: \.\w+)?\)?', part) for part in parts]
+    variables = [re.fullmatch(r'(?:word )?([^\s().]+)(?:\.\w+)?', part) for part in parts]
     if head not in definitions or not all(variables) or len(split(hypothesis, '≡')) > 2:
         return None
     named = {match[1] for match in variables}
@@ -102,7 +101,7 @@ def conclusion_fault(column, theorem, definitions):
         equations = [own_equation(hypothesis, definitions, theorem.bound) for hypothesis in theorem.hypotheses]
         equations = [equation for equation in equations if equation]
         good = len(equations) == 2 and len(pairs) == len(equations[0][0])
-        good = good and all(len(pair) == 2 and pair[0] != pair[1] and pair[0] == pair[1].replace('′', '') for pair in pairs)
+        good = good and all(len(pair) == 2 and pair[0] != pair[1] and pair[0] == pair[1].replace("'", '') for pair in pairs)
     else:
         good = True
     return None if good else f'its conclusion is not what the column {column} promises'

@@ -4,28 +4,32 @@ from dataclasses import dataclass, field
 from functools import cached_property
 
 HEAD = re.compile(r'^( *)(?:(?:pub|unfoldable|abbrev) )*(?:(record|data) )?([^\s:(){}]+)(?=[ :({]|$)')
-FUNCTION = re.compile(r'^(?:pub )?(?:extern "C" )?fn (\w+)(.*?)^\}', re.S | re.M)
+FUNCTION = re.compile(r'^(?:pub )?(?:extern "C" )?fn (\w+)(.*?^\{?\})', re.S | re.M)
+CLAUSE = re.compile(r'\s*(requires|ensures|ghost)(\*?)(?: (\w+))? (?=\{)')
+# A line of crates.txt: a crate, words about it, and the libraries that it is made of.
+LISTED = re.compile(r'\s*(\w+)((?:\s+[\w.+=-]+)*)\s*:(.*)')
+# Two files of the kit that pass on names of its library and define none.
+PASSED_ON = {'Rattle.std.specs.Prelude', 'Rattle.std.proofs.Common'}
 # Values of these types suppose nothing, if the types are these: what else a theorem is given is a hypothesis.
 DATA = {
-    'ℕ': 'Prim.Native.Nat',
-    'Bool': 'mathlib.Core.Bool',
-    'List': 'mathlib.Core.List',
-    'Size': 'Rattle·requests.specs.declared.Size',
-    'Answer': 'Rattle·requests.specs.declared.Answer',
-    'Opened': 'Rattle·matrix.specs.declared.opening.Opened',
-    'Turned': 'Rattle·matrix.specs.declared.turn.Turned',
-    'Job': 'Rattle·matrix.specs.declared.job.Job',
-    'Tallied': 'Rattle·matrix.specs.declared.tally.Tallied',
-    'Header': 'Rattle·frames.specs.declared.header.Header',
-    'Matrix': 'Rattle·cells.specs.Digit',
-    'State': 'Rattle·steps.specs.Step',
-    'Step': 'Rattle·steps.specs.Step',
-    'Place': 'Rattle·steps.specs.Turn',
+    'ℕ': {'Prim.Native.Nat', *PASSED_ON},
+    'Bool': {'mathlib.Core.Bool', *PASSED_ON},
+    'List': {'mathlib.Core.List', *PASSED_ON},
+    'Size': {'Rattle.requests.specs.declared.Size'},
+    'Answer': {'Rattle.requests.specs.declared.Answer'},
+    'Opened': {'Rattle.matrix.specs.declared.opening.Opened'},
+    'Turned': {'Rattle.matrix.specs.declared.turn.Turned'},
+    'Job': {'Rattle.matrix.specs.declared.job.Job'},
+    'Tallied': {'Rattle.matrix.specs.declared.tally.Tallied'},
+    'Header': {'Rattle.frames.specs.declared.header.Header'},
+    'Matrix': {'Rattle.cells.specs.Digit'},
+    'State': {'Rattle.steps.specs.Step'},
+    'Step': {'Rattle.steps.specs.Step'},
+    # Of two types, in crates that do not meet: a place in the list of steps, and that of a cell.
+    'Place': {'Rattle.steps.specs.Turn', 'Rattle.requests.specs.declared.Place'},
 }
-# A name of two such types, in crates that do not meet: a place in the list of steps, and that of a cell.
-ALSO = {'Place': 'Rattle·requests.specs.declared.Place'}
 # What contracts and theorems are made of, beside their own definitions.
-HOMES = {**DATA, '_≡_': 'mathlib.Core.Path', 'word': 'Rattle·requests.specs.Answers'}
+HOMES = {**DATA, '◌≡◌': {'mathlib.Core.Path', *PASSED_ON}, 'word': {'Rattle.requests.specs.Answers'}}
 
 
 def split(text, mark):
@@ -44,6 +48,25 @@ def unwrapped(text):
     return text[1:-1].strip() if text.startswith('(') and text.endswith(')') and len(split(text, ' ')) == 1 else text
 
 
+def closed(text, at):
+    """Where the bracket that stands at a place is closed: the place behind that."""
+    depth = 0
+    for i in range(at, len(text)):
+        depth += (text[i] in '([{') - (text[i] in ')]}')
+        if depth == 0:
+            return i + 1
+    return len(text)
+
+
+def brought_in(text):
+    """The paths that a source's use lines bring in by their own last names: of 'use a::{b, c::d};' a::b and a::c::d."""
+    def paths(tree):
+        before, brace, group = tree.partition('{')
+        return [before + path for part in split(group[:-1], ',') for path in paths(part)] if brace else [tree]
+    trees = [' '.join(tree.split()) for tree in re.findall(r'(?m)^(?:pub )?use ([^;]*);', text)]
+    return {path for tree in trees for path in paths(tree) if ' ' not in path}
+
+
 def leaves(text):
     """The parts of a pair, of its pairs, and so on."""
     parts = split(unwrapped(text), ',')
@@ -51,12 +74,25 @@ def leaves(text):
 
 
 def cites(text, name):
-    return re.search(r'(?<![\w-])' + re.escape(name) + r'(?![\w-])', text) is not None
+    return re.search(r"(?<![\w'-])" + re.escape(name) + r"(?![\w'-])", text) is not None
 
 
 def module(file):
-    """What other crates call a file of specs or proofs."""
-    return 'Rattle·' + file.removesuffix('.antt').replace('/', '.')
+    """What its own crate and others call a file of specs or proofs."""
+    return 'Rattle.' + file.removesuffix('.antt').replace('/', '.')
+
+
+def listed_crates(root):
+    """The crates of crates.txt, each with the libraries that it is made of, and the lines that cannot be read."""
+    found, unread = {}, []
+    for line in (root / 'crates.txt').read_text(encoding='utf-8').split('\n'):
+        line = line.partition('#')[0]
+        m = LISTED.fullmatch(line)
+        if m:
+            found[m[1]] = m[3].split()
+        elif line.strip():
+            unread.append(line.strip())
+    return found, unread
 
 
 def indent(line):
@@ -72,22 +108,28 @@ class Function:
 
     @classmethod
     def read(cls, text):
-        """From what follows the name: '(a: T, ..) -> R', its clauses, one to a line, and the body."""
-        parameters = text[1:text.find(')')]
-        head, _, body = re.sub(r'(?m)(?:^| )\{$', '\0', text[len(parameters) + 2:], count=1).partition('\0')
-        result, *lines = [line.strip() for line in head.split('\n')]
-        clauses = []
-        for line in filter(None, lines):
-            if line.split(' ')[0] in ('requires', 'ensures') or not clauses:
-                clauses.append(line)
-            else:
-                clauses[-1] += ' ' + line
+        """From what follows the name: '(a: T, ..) -> R', its clauses, each 'KIND { .. }' or 'KIND NAME { .. }', and the body."""
+        at = closed(text, 0)
+        parameters, clauses = text[1:at - 1], []
+        m = re.compile(r'\s*(?:-> *([^{\n]*?))?(?=\s*(?:\{|\n|$))').match(text, at)
+        result, at = (m[1] or '').strip(), m.end()
+        while clause := CLAUSE.match(text, at):
+            at = closed(text, clause.end())
+            clauses.append((clause[1] + clause[2], ' '.join(text[clause.end() + 1:at - 1].split())))
+        head, brace, body = text[at:].partition('{')
+        if head.strip() or not brace:
+            clauses.append(('what is not read', ' '.join(head.split())))
         pairs = [part.partition(': ')[::2] for part in split(' '.join(parameters.split()), ',')]
-        return cls(pairs, result.removeprefix('->').strip(), [clause.partition(' ')[::2] for clause in clauses], body)
+        return cls(pairs, result, clauses, body)
 
     @property
     def ensures(self):
         return ' '.join(text for kind, text in self.clauses if kind == 'ensures')
+
+    @property
+    def requires(self):
+        """Whether it asks anything of its caller: a condition, or a ghost argument, which may be one."""
+        return any(kind not in ('ensures', 'ensures*') for kind, _ in self.clauses)
 
 
 @dataclass
@@ -143,6 +185,12 @@ class Source:
         return {name: Function.read(text) for name, text in FUNCTION.findall(self.text)}
 
     @cached_property
+    def unread(self):
+        """Public functions of a form that is not in use here, as a method's."""
+        found = [] if self.proof else re.findall(r'(?m)^.*\bpub\b.*\bfn (\w+)', self.text)
+        return sorted(set(found) - set(self.functions))
+
+    @cached_property
     def structs(self):
         found = re.findall(r'(?m)^(?:pub )?struct (\w+) \{\n((?: .*\n)*)\}', self.text)
         return {name: re.findall(r'(?m)^ +(?:pub )?(\w+):', fields) for name, fields in found}
@@ -156,9 +204,9 @@ class Source:
 
     @cached_property
     def uses(self):
-        """A crate's own files call Rattle·crate·specs what others call Rattle·crate."""
+        """The modules that it uses, each with the names that it has from there, in the order of the file."""
         lines = re.findall(r'(?m)^(?:pub |ghost )*use (\S+)\.\{([^}]*)\}', self.text)
-        return [(re.sub(r'^(Rattle·\w+)·\w+', r'\1', place), ' '.join(names.split()).split(', ')) for place, names in lines]
+        return [(place, ' '.join(names.split()).split(', ')) for place, names in lines]
 
     @cached_property
     def theorems(self):
@@ -188,9 +236,11 @@ class Source:
         """Why the file cannot be read word for word, if it cannot."""
         if self.commented:
             return 'has a comment of more than a line, which looks like what it comments on'
-        for name, home in HOMES.items():
-            if set(self.origins(name)) - {home, ALSO.get(name)}:
-                return f'has {name} from {" and ".join(self.origins(name))}, and not from {home}'
+        for name, homes in HOMES.items():
+            if set(self.origins(name)) - homes:
+                return f'has {name} from {" and ".join(self.origins(name))}, and not from {" or ".join(sorted(homes))}'
+        if self.unread:
+            return f'has public functions that are not read, as they begin otherwise than functions do here: {", ".join(self.unread)}'
         again = [name for name, theorems in self.theorems.items() if any(name in theorem.bound for theorem in theorems)]
         return f'defines {", ".join(again)} where a parameter has that name' if self.proof and again else ''
 
