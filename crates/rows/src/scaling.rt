@@ -8,7 +8,7 @@ use super::words::{load, store};
 // The row at x of out becomes d times the row at y of a.
 pub fn scaling(out: &mut [u64], a: &[u64], q: usize, x: usize, y: usize, d: u64)
     requires { (d < 3) × (x + (q + q) ≤ length out.old) × Readable q q y a.now }
-    ensures { Made (of1 (λ a. mul3 a d) q a.entry.now y) x q q out.old out.new }
+    ensures { Made (of1 (λ a. mul3 a d) q a.now y) x q q out.old out.new }
 {
     let mut p = 0;
     while p < q {
