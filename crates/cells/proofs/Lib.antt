@@ -11,5 +11,6 @@ pub mod AnyLaws
 pub mod LeastLaws
 pub mod FaultLaws
 pub mod SumLaws
+pub mod LanesLaws
 pub mod CountLaws
 pub mod LowestLaws

@@ -6,3 +6,4 @@ pub mod Any
 pub mod Fault
 pub mod Counts
 pub mod Lowest
+pub mod Lanes

@@ -4,6 +4,7 @@
 pub mod combination;
 pub mod counts;
 pub mod fault;
+pub mod lanes;
 pub mod lowest;
 pub mod mask;
 pub mod negation;

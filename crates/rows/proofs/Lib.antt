@@ -5,3 +5,4 @@ pub mod FaultLaws
 pub mod TallyLaws
 pub mod BlockLaws
 pub mod MatrixLaws
+pub mod WideLaws

@@ -12,4 +12,5 @@ pub mod scaling;
 pub mod subtract;
 pub mod table_step;
 pub mod tally;
+pub mod wide;
 pub mod words;

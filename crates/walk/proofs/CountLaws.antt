@@ -6,6 +6,9 @@ use native.Mathlib.Numerals.{add-one}
 use native.Mathlib.Omega.{arith}
 use borrow.Author.Count.{below_more}
 use lib.Pow.{pow_mono}
+use lib.Dec.{eqb}
+use mathlib.Core.Bool.{true, false}
+use borrow.Author.Tests.{eq-eqb, ne_eqb}
 use Rattle.cells.specs.Counts.{sum, bits_of}
 use Rattle.cells.specs.Digit.{Matrix}
 use Rattle.buffers.specs.Buffer.{planes, cell}
@@ -17,7 +20,7 @@ use Rattle.walk.specs.declared.place.Standing.{Standing}
 use Rattle.walk.specs.Place.{StandsAt}
 use Rattle.steps.proofs.Counts.{row_le, total_counts}
 use Rattle.steps.proofs.Most.{total_most}
-use Rattle.cells.proofs.SumLaws.{sum_none, sum_last, sum_le, sum_mono, sum_same}
+use Rattle.cells.proofs.SumLaws.{sum_none, sum_last, sum_le, sum_more, sum_mono, sum_same}
 
 -- the bits that are read of a row of a matrix are P and N
 pub bits_are : (d l i q s w : ℕ) (a : List ℕ) → q ≡ planes l → bits_of d (column a (i * (2 * q)) q) s w ≡ bits_of d (cell l a i) s w
@@ -55,6 +58,10 @@ module _ (m l k : ℕ) (A : Matrix) where
   pub place_more : (b total c w : ℕ) → w ≡ block_width l k b → total ≡ sum 0 b (count_at m l k A) → c ≡ block_count m A (b * k) w → total + c ≡ sum 0 (b + 1) (count_at m l k A)
   place_more b n c w ew en ec = rw (add-one b) (sym (sum_last (count_at m l k A) b ∙ ap₂ ◌+◌ (sym en) (ap (block_count m A (b * k)) (sym ew) ∙ sym ec)))
 
+  -- the steps before the h blocks from block b on, and theirs
+  pub place_many : (b h n c : ℕ) → n ≡ sum 0 b (count_at m l k A) → c ≡ sum b h (count_at m l k A) → n + c ≡ sum 0 (b + h) (count_at m l k A)
+  place_many b h n c en ec = ap₂ ◌+◌ en ec ∙ sym (sum_more (count_at m l k A) b h)
+
   pub place_small : (b n : ℕ) → m ≤ 1024 → l ≤ 1024 → k ≤ 8 → b ≤ blocks l k → n ≡ sum 0 b (count_at m l k A) → n ≤ 1050112
   place_small b n hm hl hk hb en = omega (arith, en, sum_mono (count_at m l k A) b (blocks l k) hb, total_counts m l k A, total_most m l k A hm hl hk)
 
@@ -73,3 +80,11 @@ module _ (m l k : ℕ) (A : Matrix) where
   skip_within done at S h =
       let e = S.last (suc at.block) (omega arith) (omega arith) in
       omega (arith, e, S.before_is, S.begun, sum_last (count_at m l k A) at.block)
+
+-- ---- whether these steps are all
+
+pub ends_not : (steps total : ℕ) → steps < total → false ≡ eqb steps total
+ends_not steps total h = sym (ne_eqb steps total (λ e. omega arith))
+
+pub ends_here : (steps total : ℕ) → steps ≡ total → true ≡ eqb steps total
+ends_here steps total e = sym (eq-eqb steps total e)

@@ -4,7 +4,7 @@ use mathlib.Core.List.{List, [], ◌∷◌, ◌++◌}
 use Prim.Native.Nat.{ℕ, zero, suc, ◌+◌, ◌-◌, ◌^◌, ◌≤◌, ◌<◌, min}
 use native.Mathlib.Decide.{dec_lt}
 use native.Mathlib.Omega.{arith}
-use lib.ListN.{length, take, drop, length-append, drop_of_length-le}
+use lib.ListN.{length, take, drop, length-append, length-drop, drop_of_length-le}
 use lib.Seq.{take_all, take-append_seam}
 use Rattle.steps.specs.Step.{Step, table_step}
 use Rattle.steps.specs.StepList.{each, table_steps}
@@ -53,6 +53,15 @@ due_more (p ∷ ps) qs (suc z) g =
     let a : suc z - suc (length ps) ≡ z - length ps = omega arith in
     let b : g - (suc (length ps) - suc z) ≡ g - (length ps - z) = omega arith in
     rw (a, b) (due_more ps qs z g)
+
+-- a budget beyond the list's end brings nothing more
+pub due_least : (z g : ℕ) (ps : List Step) → due z g ps ≡ due z (min g (length ps - z)) ps
+unfolding due
+due_least z g ps = go (dec_lt g (length ps - z))
+  where
+    go : Dec (g < length ps - z) → take g (drop z ps) ≡ take (min g (length ps - z)) (drop z ps)
+    go (yes h) = let e : min g (length ps - z) ≡ g = omega arith in rw e
+    go (no h) = take_all g (drop z ps) (omega (arith, length-drop z ps)) ∙ sym (take_all (min g (length ps - z)) (drop z ps) (omega (arith, length-drop z ps)))
 
 -- ---- what is left after a list
 

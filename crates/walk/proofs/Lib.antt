@@ -4,3 +4,4 @@ pub mod PutLaws
 pub mod RanLaws
 pub mod CountLaws
 pub mod PieceLaws
+pub mod LaneLaws

@@ -4,7 +4,7 @@ use mathlib.Core.List.{List, [], ◌∷◌, ◌++◌, append-nil}
 use Prim.Native.Nat.{ℕ, zero, suc, ◌+◌, ◌-◌, ◌*◌, ◌^◌, ◌≤◌, ◌<◌, min}
 use native.Mathlib.Numerals.{add-one}
 use native.Mathlib.Omega.{arith}
-use lib.Pow.{pow_pos}
+use lib.Pow.{pow_pos, pow_mono}
 use lib.ListN.{length, drop_of_length-le}
 use Rattle.cells.specs.Bit.{bit}
 use Rattle.cells.specs.Digit.{Matrix, combine}
@@ -13,14 +13,14 @@ use Rattle.buffers.specs.Buffer.{planes, Legal, Words}
 use Rattle.rows.specs.Row.{of2, Made}
 use Rattle.steps.specs.Step.{Step, table_step, row_step, lowest_bit, cleared}
 use Rattle.steps.specs.StepList.{unless0, each, table_steps, row_steps, block_steps, blocks, block_width, block_at, steps}
-use Rattle.steps.specs.Count.{count_at}
+use Rattle.steps.specs.Count.{block_count, count_at}
 use Rattle.cells.specs.Counts.{sum}
 use Rattle.steps.specs.Turn.{due}
 use Rattle.steps.proofs.Fits.{AllFit, fit_take, fit_drop, fit_each, table_step_fits, row_fits, block_fits, fit_wider}
 use Rattle.steps.proofs.Counts.{length_block}
-use Rattle.steps.proofs.Loops.{each_split, each_next, each_end, length_each, width_within, width_le}
+use Rattle.steps.proofs.Loops.{each_split, each_next, each_end, length_each, width_within, width_pos, width_le}
 use Rattle.steps.proofs.LowestBit.{lowest_only, cleared_only}
-use Rattle.cells.proofs.SumLaws.{sum_ext}
+use Rattle.cells.proofs.SumLaws.{sum_more, sum_ext}
 use Rattle.walk.specs.declared.Left.{Left}
 use Rattle.walk.specs.Spent.{Spent}
 use Rattle.walk.specs.Ran.{Ran}
@@ -189,3 +189,20 @@ block_whole k m n l A B s w top narrow e t p t₁ p₁ R T =
 -- the blocks of the list fit
 pub blocks_fit : (m l k c : ℕ) (A : Matrix) → 0 < k → c < blocks l k → AllFit m l k (block_at m l k A c)
 blocks_fit m l k c A pos h = fit_wider m l (block_width l k c) k (width_le l k c) (block_steps m A (c * k) (block_width l k c)) (block_fits m l A (c * k) (block_width l k c) (width_within l k c pos h))
+
+-- ---- how many steps blocks have
+
+-- the steps of the blocks from c up to d - 1
+pub each_counts : (m l k c d : ℕ) (A : Matrix) → c ≤ d → sum 0 c (count_at m l k A) + length (each c d (block_at m l k A)) ≡ sum 0 d (count_at m l k A)
+each_counts m l k c d A h =
+    let e : c + (d - c) ≡ d = omega arith in
+    let long : length (each c d (block_at m l k A)) ≡ sum c (d - c) (count_at m l k A) =
+    length_each (block_at m l k A) c d ∙ sum_ext _ _ (d - c) c (λ b _ _. length_block m A (b * k) (block_width l k b)) in
+    ap (λ (n : ℕ). sum 0 c (count_at m l k A) + n) long ∙ sym (sum_more (count_at m l k A) c (d - c)) ∙ ap (λ (n : ℕ). sum 0 n (count_at m l k A)) e
+
+-- a block has at least one table step
+pub count_some : (m l k b : ℕ) (A : Matrix) → 0 < k → b < blocks l k → 0 < count_at m l k A b
+unfolding block_count
+count_some m l k b A pos h =
+    let two : 2 ^ 1 ≤ 2 ^ block_width l k b = pow_mono (width_pos l k b pos h) in
+    omega arith

@@ -3,6 +3,7 @@
 
 pub mod blocks;
 pub mod count;
+mod many;
 mod piece;
 pub mod place;
 mod row_step;
