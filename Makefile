@@ -27,7 +27,7 @@ $(archive): $(sources) | $(if $(filter install,$(MAKECMDGOALS)),checked)
 	@bash -c '. hosts/kit.sh && have_rt'
 	@mkdir -p target && touch target/archive-began
 	cd crates/cface_c && rt lib
-	@mkdir -p $(@D) && cp crates/cface_c/out/libcface_c.a $@ && touch -r target/archive-began $@
+	@mkdir -p $(@D) && cp crates/cface_c/out/libcface_c.a $@.made && touch -r target/archive-began $@.made && mv $@.made $@
 
 install: checked $(if $(value ARCHIVE),,$(archive))
 	@include/install install

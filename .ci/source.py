@@ -7,7 +7,7 @@ HEAD = re.compile(r'^( *)(?:(?:pub|unfoldable|abbrev) )*(?:(record|data) )?([^\s
 FUNCTION = re.compile(r'^(?:pub )?(?:extern "C" )?fn (\w+)(.*?^\{?\})', re.S | re.M)
 CLAUSE = re.compile(r'\s*(requires|ensures|ghost)(\*?)(?: (\w+))? (?=\{)')
 # A line of crates.txt: a crate, words about it, and the libraries that it is made of.
-LISTED = re.compile(r'\s*(\w+)((?:\s+[\w.+=-]+)*)\s*:(.*)')
+LISTED = re.compile(r'\s*(\w+)(?:\s+staticlib)?\s*:(.*)')
 # Two files of the kit that pass on names of its library and define none.
 PASSED_ON = {'Rattle.std.specs.Prelude', 'Rattle.std.proofs.Common'}
 # Values of these types suppose nothing, if the types are these: what else a theorem is given is a hypothesis.
@@ -89,7 +89,7 @@ def listed_crates(root):
         line = line.partition('#')[0]
         m = LISTED.fullmatch(line)
         if m:
-            found[m[1]] = m[3].split()
+            found[m[1]] = m[2].split()
         elif line.strip():
             unread.append(line.strip())
     return found, unread

@@ -119,7 +119,8 @@ up_to_date() {
 made_archive() {
     local log=$out/archive-$1.log
     : >"$log" && : >"$log.began" && have_rt && mkdir -p "$(dirname "$2")" || return 1
-    (cd "$root/crates/$1" && rt lib) >"$log" 2>&1 && cp "$root/crates/$1/out/lib$1.a" "$2" && touch -r "$log.began" "$2" || {
+    # Copied beside it and then moved: half an archive would be newer than all sources.
+    (cd "$root/crates/$1" && rt lib) >"$log" 2>&1 && cp "$root/crates/$1/out/lib$1.a" "$2.made" && touch -r "$log.began" "$2.made" && mv "$2.made" "$2" || {
         tail -n 20 "$log" >&2
         return 1
     }

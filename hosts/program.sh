@@ -41,6 +41,7 @@ make_program() {
 make_locked() {
     local all crates ended=0 start=$SECONDS began=$out/program.began name took word
     all=$(crates_of multiply) || return 1
+    [ "${all##*$'\n'}" = multiply ] || { echo 'crates.txt has no line for multiply' >&2 && return 1; }
     crates=$(wc -w <<<"$all")
     echo "$1: its $crates crates are proved and it is built, this once; from nothing that takes some minutes" >&2
     : >"$began" && rm -f "$built" && mkdir -p "$(dirname "$built")" || return 1
@@ -81,6 +82,7 @@ why_not_made() { # NAME
     local errors
     progress "$1" "NOT PROVED ($((SECONDS - took)) s)"
     errors=$(grep -m 3 ': error' "$out/program.log" || grep -v '^rt: ' "$out/program.log" | head -n 3)
+    [ -n "$errors" ] || errors=$(tail -n 5 "$out/program.log")
     printf '%s:\n' "$1"
     printf '%s\n' "${errors//"$root/"/}" | cut -c 1-300 | sed 's/^/    /'
     echo "multiply is not built; all that rt said is in $out/program.log"

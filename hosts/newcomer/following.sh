@@ -64,9 +64,9 @@ gates() {
     cp "$root"/hosts/*.sh hosts && cp "$root/.ci/run" .ci || exit 1
     for name in .ci/promises .ci/refusals .ci/map hosts/run; do printf '#!/bin/sh\n' >"$name" && chmod +x "$name"; done
     part=' s  proofs, layout, must-fail edits and programs (rt ci)'
-    gate '4 passed, 0 failed' 0 ' must-fail edits: 26 refused, 0 bad' "$room/right"
-    gate '2 passed, 3 failed' 1 ' must-fail edits: 26 refused, 0 bad' "$room/wrong"
-    gate '4 passed, 0 failed' 0 ' must-fail edits: 25 refused, 1 bad' "$room/bad"
+    gate '4 passed, 0 failed' 0 '; handles allowed: none; must-fail edits: 29 refused; done in this run' "$room/right"
+    gate '2 passed, 3 failed' 1 '; handles allowed: none; must-fail edits: 29 refused; done in this run' "$room/wrong"
+    gate '4 passed, 0 failed' 0 '; handles allowed: none; must-fail edits: 27 refused, 2 bad; done in this run' "$room/bad"
     judge 'the proofs pass' grep -q "^ *[0-9]*$part$" "$room/right"
     judge 'the proofs fail' grep -q "^ *[0-9]*$part (failed)$" "$room/wrong"
     judge 'an edit that does not fit fails' grep -q "^ *[0-9]*$part (failed)$" "$room/bad"
