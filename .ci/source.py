@@ -4,7 +4,9 @@ from dataclasses import dataclass, field
 from functools import cached_property
 
 HEAD = re.compile(r'^( *)(?:(?:pub|unfoldable|abbrev) )*(?:(record|data) )?([^\s:(){}]+)(?=[ :({]|$)')
-FUNCTION = re.compile(r'^(?:pub )?(?:extern "C" )?fn (\w+)(.*?^\{?\})', re.S | re.M)
+# Functions stand at the left edge, methods one step in, in a block of their type.
+FUNCTION = re.compile(r'^( {4})?(pub )?(extern "C" )?fn (\w+)(.*?^(?(1) {4})\{?\})', re.S | re.M)
+BLOCK = re.compile(r'^(?:pub )?(?:impl|trait)\b(?:<[^>\n]*>)? (?:[^{\n]* for )?(\w+)', re.M)
 CLAUSE = re.compile(r'\s*(requires|ensures|ghost)(\*?)(?: (\w+))? (?=\{)')
 # A line of crates.txt: a crate, words about it, and the libraries that it is made of.
 LISTED = re.compile(r'\s*(\w+)(?:\s+staticlib)?\s*:(.*)')
@@ -108,9 +110,10 @@ class Function:
 
     @classmethod
     def read(cls, text):
-        """From what follows the name: '(a: T, ..) -> R', its clauses, each 'KIND { .. }' or 'KIND NAME { .. }', and the body."""
-        at = closed(text, 0)
-        parameters, clauses = text[1:at - 1], []
+        """From what follows the name: '(a: T, ..) -> R', its clauses, each 'KIND { .. }' or 'KIND NAME { .. }', and the body; before it may stand '<..>'."""
+        start = text.index('(')
+        at = closed(text, start)
+        parameters, clauses = text[start + 1:at - 1], []
         m = re.compile(r'\s*(?:-> *([^{\n]*?))?(?=\s*(?:\{|\n|$))').match(text, at)
         result, at = (m[1] or '').strip(), m.end()
         while clause := CLAUSE.match(text, at):
@@ -167,7 +170,7 @@ class Source:
     def definitions(self):
         """The names that the file defines; a record's fields and a data type's constructors as NAME.FIELD."""
         if not self.proof:
-            return set(re.findall(r'(?m)^\s*(?:pub )?(?:extern "C" )?(?:fn|struct|enum) (\w+)', self.text))
+            return set(re.findall(r'(?m)^(?:pub )?(?:extern "C" )?(?:fn|struct|enum|trait) (\w+)', self.text)) | set(self.functions)
         names, inside, depth = set(), None, 0
         for head in filter(None, map(HEAD.match, self.lines)):
             at, kind, name = len(head[1]), head[2], head[3]
@@ -181,14 +184,29 @@ class Source:
         return names
 
     @cached_property
+    def read(self):
+        """Each function as (its name, a method's as TYPE.NAME, whether it is public, whether it is for C, what follows its name)."""
+        found, blocks = [], [(m.start(), m[1]) for m in BLOCK.finditer(self.text)]
+        for m in FUNCTION.finditer('' if self.proof else self.text):
+            owner = [name for at, name in blocks if at < m.start()][-1:] if m[1] else []
+            found.append(('.'.join(owner + [m[4]]), bool(m[2]), bool(m[3]), m[5]))
+        return found
+
+    @cached_property
     def functions(self):
-        return {name: Function.read(text) for name, text in FUNCTION.findall(self.text)}
+        return {name: Function.read(text) for name, _, _, text in self.read}
+
+    @cached_property
+    def public(self):
+        """The public functions, each with whether it is for C."""
+        return {name: exported for name, public, exported, _ in self.read if public}
 
     @cached_property
     def unread(self):
-        """Public functions of a form that is not in use here, as a method's."""
-        found = [] if self.proof else re.findall(r'(?m)^.*\bpub\b.*\bfn (\w+)', self.text)
-        return sorted(set(found) - set(self.functions))
+        """Public functions of a form that is not in use here, and functions of one name, of which one only would be read."""
+        found = [] if self.proof else re.findall(r'(?m)^.*\bpub\b(?!\().*\bfn (\w+)', self.text)
+        names = [name for name, _, _, _ in self.read]
+        return sorted(set(found) - {name.split('.')[-1] for name in self.public} | {name for name in names if names.count(name) > 1})
 
     @cached_property
     def structs(self):
