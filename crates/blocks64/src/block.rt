@@ -1,4 +1,5 @@
 // Up to 64 words of one slice, transposed into up to 64 words of another. In both the words lie at equal distances.
+// Slice, first word, distance and number stay parameters: of the written one a struct would hold a &mut, with old and new a place further in each clause.
 ghost use Rattle.std.specs.Prelude.{◌≡◌, ℕ, ◌+◌, ◌*◌, ◌^◌, ◌≤◌, ◌<◌, length, get_or};
 ghost use Rattle.rows.specs.Row.{Written};
 ghost use Rattle.blocks64.specs.Block.{Spaced, Spread, transposed_word};
@@ -17,10 +18,8 @@ fn fetch(a: &[u64], x: usize, w: usize, n: usize, block: &mut [u64])
     requires { Spaced x w n (length a.now) × (n ≤ length block.old) }
     ensures { Written (λ t. get_or a.now (x + t * w) 0) 0 n block.old block.new }
 {
-    let mut t = 0;
-    while t < n {
+    for t in 0..n {
         block[t] = a[place(x, t, w)];
-        t += 1;
     }
 }
 
@@ -29,11 +28,8 @@ fn put(block: &[u64], out: &mut [u64], x: usize, w: usize, n: usize)
     requires { Spaced x w n (length out.old) × (n ≤ length block.now) × (0 < w) }
     ensures { Spread (λ t. get_or block.now t 0) x w n out.old out.new × ((t : ℕ) → get_or block.now t 0 < 2 ^ 64) }
 {
-    let mut t = 0;
-    while t < n {
-        let at = place(x, t, w);
-        out[at] = block[t];
-        t += 1;
+    for t in 0..n {
+        out[place(x, t, w)] = block[t];
     }
 }
 
@@ -42,13 +38,13 @@ fn through(
     x: usize,
     w: usize,
     n: usize,
-    block: &mut [u64],
+    block: &mut [u64; 64],
     out: &mut [u64],
     y: usize,
     v: usize,
     m: usize,
 )
-    requires { Spaced x w n (length a.now) × Spaced y v m (length out.old) × (0 < v) × (length block.old ≡ 64) × ((t : ℕ) → get_or block.old t 0 ≡ 0) }
+    requires { Spaced x w n (length a.now) × Spaced y v m (length out.old) × (0 < v) × ((t : ℕ) → get_or block.old t 0 ≡ 0) }
     ensures { Spread (transposed_word a.now x w n) y v m out.old out.new }
 {
     fetch(a, x, w, n, block);

@@ -1,4 +1,4 @@
-// One stage of transposing: each word exchanges bits with the word h words after it.
+// One stage of transposing: each word exchanges bits with the word h words after it. Distance and mask are no struct: transpose says each pair once.
 ghost use Rattle.std.specs.Prelude.{◌≡◌, ◌+◌, ◌*◌, ◌≤◌, ◌<◌, length, get_or, set};
 ghost use Rattle.blocks64.specs.Exchange.{lower, upper, Pairs, Stage};
 
@@ -10,8 +10,8 @@ fn exchange_pair(w: &mut [u64], i: usize, h: usize, mask: u64)
     let k = i + h;
     let x = w[i];
     let y = w[k];
-    let t = ((x >> (h as u64)) ^ y) & mask;
-    w[i] = x ^ (t << (h as u64));
+    let t = ((x >> h) ^ y) & mask;
+    w[i] = x ^ (t << h);
     w[k] = y ^ t;
 }
 
@@ -19,21 +19,17 @@ fn exchange_pairs(w: &mut [u64], x: usize, h: usize, mask: u64)
     requires { (h ≤ 32) × (x + (h + h) ≤ length w.old) }
     ensures { Pairs h mask x h w.old w.new }
 {
-    let mut j = 0;
-    while j < h {
+    for j in 0..h {
         exchange_pair(w, x + j, h, mask);
-        j += 1;
     }
 }
 
 // All 64 words, in n parts of 2 h words.
-pub fn exchange(w: &mut [u64], n: usize, h: usize, mask: u64)
-    requires { (h ≤ 32) × (n * (h + h) ≡ 64) × (length w.old ≡ 64) }
+pub fn exchange(w: &mut [u64; 64], n: usize, h: usize, mask: u64)
+    requires { (h ≤ 32) × (n * (h + h) ≡ 64) }
     ensures { Stage h mask n w.old w.new }
 {
-    let mut k = 0;
-    while k < n {
+    for k in 0..n {
         exchange_pairs(w, k * (h + h), h, mask);
-        k += 1;
     }
 }

@@ -1,5 +1,6 @@
 -- What the word tests of a pair of words say of its places. Assumes nothing.
-use Rattle.std.proofs.Common.{◌≡◌, ℕ, zero, suc, ◌+◌, ◌-◌, ◌/◌, ◌^◌, ◌<◌, ◌≤◌, min, max, Bool, true, false, ltb, sym, refl, ap, ◌∙◌, arith, ltb-false, le-ltb, lt-ltb}
+use Rattle.std.proofs.Common.{◌≡◌, ℕ, zero, suc, ◌+◌, ◌-◌, ◌/◌, ◌^◌, ◌<◌, ◌≤◌, min, max, Bool, true, false, ltb, not, ◌==◌, sym, refl, ap, ◌∙◌, arith, ltb-false, le-ltb, lt-ltb}
+use Rattle.std.proofs.Math.Dec.{eqb-suc-zero}
 use native.Mathlib.Decide.{dec_lt}
 use lib.Bits.{bit_and, bit_or, bit_xor, differ, and_lt, or_lt, xor_lt}
 use lib.Pow.{shr_le}
@@ -23,6 +24,11 @@ zero_bad : (a b : ℕ) → a < 2 → b < 2 → b ≤ a → min b (differ b a) �
 zero_bad a b ha hb =
     bits (λ (x : ℕ). b ≤ x → min b (differ b x) ≡ 0) (λ e. omega arith)
     (bits (λ (y : ℕ). y ≤ 1 → min y (differ y 1) ≡ 0) (λ e. omega arith) (λ e. omega arith) b hb) a ha
+
+-- a test of a word tells what holds just where the word is 0, and what holds elsewhere
+tested : (w : ℕ) (b : Bool) → (w ≡ 0 → false ≡ b) → ((w ≡ 0 → ⊥) → true ≡ b) → not (w == 0) ≡ b
+tested zero b none some = none refl
+tested (suc w) b none some = let e : (suc w == 0) ≡ false = eqb-suc-zero w in rw e (some (λ z. omega arith))
 
 -- a word with no bit is 0, and a Bool that is not false is true
 yes_unless : (b : Bool) (w k : ℕ) → w < 2 ^ k → (w ≡ 0 → ⊥) → (b ≡ false → (t : ℕ) → t < k → bit w t ≡ 0) → true ≡ b
@@ -50,17 +56,20 @@ module _ (u s n : ℕ) (small : n ≤ 64) where
       go t h (yes l) = omega (arith, zero_bad (bit u t) (bit s t) (bit_lt u t) (bit_lt s t) (ltb-false _ _ (h t l)))
       go t h (no m) = omega (arith, low_out n t (omega arith))
 
+  pub stray_tested : u < 2 ^ 64 → s < 2 ^ 64 → not (bit_and (bit_and s (bit_xor s u)) (2 ^ n - 1) == 0) ≡ any n (λ t. ltb (bit u t) (bit s t))
+  stray_tested hu hs = tested _ _ stray_none (stray_some hu hs)
+
 module _ (u s n : ℕ) where
   padded_bit : (t : ℕ) → bit (bit_or u s / 2 ^ n) t ≡ max (bit u (n + t)) (bit s (n + t))
   padded_bit t = bit_shr (bit_or u s) n t ∙ bit_of_or u s (n + t)
 
-  pub padded_none : bit_or u s / 2 ^ n ≡ 0 → false ≡ any (64 - n) (λ t. ltb 0 (digit u s (n + t)))
+  padded_none : bit_or u s / 2 ^ n ≡ 0 → false ≡ any (64 - n) (λ t. ltb 0 (digit u s (n + t)))
   unfolding digit
   padded_none e =
       sym (any_none (λ t. ltb 0 (digit u s (n + t))) (64 - n)
       (λ t l. le-ltb 0 (bit u (n + t) + bit s (n + t)) (omega (arith, padded_bit t, ap (λ (w : ℕ). bit w t) e, bit_of_zero t))))
 
-  pub padded_some : u < 2 ^ 64 → s < 2 ^ 64 → (bit_or u s / 2 ^ n ≡ 0 → ⊥) → true ≡ any (64 - n) (λ t. ltb 0 (digit u s (n + t)))
+  padded_some : u < 2 ^ 64 → s < 2 ^ 64 → (bit_or u s / 2 ^ n ≡ 0 → ⊥) → true ≡ any (64 - n) (λ t. ltb 0 (digit u s (n + t)))
   unfolding digit
   padded_some hu hs ne =
       yes_unless (any (64 - n) (λ t. ltb 0 (digit u s (n + t)))) (bit_or u s / 2 ^ n) 64 (omega (arith, or_lt 64 u s hu hs, shr_le (bit_or u s) n)) ne
@@ -69,6 +78,9 @@ module _ (u s n : ℕ) where
       go : (t : ℕ) → ((i : ℕ) → i < 64 - n → ltb 0 (bit u (n + i) + bit s (n + i)) ≡ false) → Dec (n + t < 64) → max (bit u (n + t)) (bit s (n + t)) ≡ 0
       go t h (yes l) = omega (arith, ltb-false 0 (bit u (n + t) + bit s (n + t)) (h t (omega arith)))
       go t h (no m) = omega (arith, bit_high 64 u (n + t) hu (omega arith), bit_high 64 s (n + t) hs (omega arith))
+
+  pub padded_tested : u < 2 ^ 64 → s < 2 ^ 64 → not (bit_or u s / 2 ^ n == 0) ≡ any (64 - n) (λ t. ltb 0 (digit u s (n + t)))
+  padded_tested hu hs = tested _ _ padded_none (padded_some hu hs)
 
 -- ---- the first place, which is that of the lowest set bit of a word of faults
 

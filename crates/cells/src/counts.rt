@@ -9,8 +9,8 @@ pub fn counts(x: Cells, mask: u64) -> [u64; 3]
     requires { Good x }
     ensures { result ≡ count 0 x.unit x.sign mask ∷ count 1 x.unit x.sign mask ∷ count 2 x.unit x.sign mask ∷ [] }
 {
-    let zeros = u64::count_ones(mask & (mask ^ x.unit)) as u64;
-    let ones = u64::count_ones(mask & (x.unit ^ x.sign)) as u64;
-    let twos = u64::count_ones(mask & x.sign) as u64;
+    let zeros = u64::from((mask & (mask ^ x.unit)).count_ones());
+    let ones = u64::from((mask & (x.unit ^ x.sign)).count_ones());
+    let twos = u64::from((mask & x.sign).count_ones());
     [zeros, ones, twos]
 }

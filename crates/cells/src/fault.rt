@@ -14,10 +14,7 @@ pub fn stray(x: Cells, n: u64) -> bool
     ensures { result ≡ stray_in (bit x.unit) (bit x.sign) n }
 {
     let bad = x.sign & (x.sign ^ x.unit);
-    if bad & low(n) == 0 {
-        return false;
-    }
-    true
+    bad & low(n) != 0
 }
 
 // A place from n on, padding, holds a bit.
@@ -25,10 +22,7 @@ pub fn padded(x: Cells, n: u64) -> bool
     requires { n < 64 }
     ensures { result ≡ padded_in (at x) n 64 }
 {
-    if (x.unit | x.sign) >> n == 0 {
-        return false;
-    }
-    true
+    (x.unit | x.sign) >> n != 0
 }
 
 // The first place of a pair that has sign without unit.
@@ -36,8 +30,7 @@ pub fn first_stray(x: Cells) -> u64
     requires { stray_in (bit x.unit) (bit x.sign) 64 ≡ true }
     ensures { result ≡ stray_first (bit x.unit) (bit x.sign) 64 }
 {
-    let at = lowest(x.sign & (x.sign ^ x.unit)).at;
-    at as u64
+    u64::from(lowest(x.sign & (x.sign ^ x.unit)).at)
 }
 
 // The first place from n on of a pair that has a bit there.
@@ -45,6 +38,5 @@ pub fn first_padded(x: Cells, n: u64) -> u64
     requires { (n < 64) × (padded_in (at x) n 64 ≡ true) }
     ensures { result ≡ padded_first (at x) n 64 }
 {
-    let at = lowest((x.unit | x.sign) >> n).at;
-    n + at as u64
+    n + u64::from(lowest((x.unit | x.sign) >> n).at)
 }

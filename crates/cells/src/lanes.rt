@@ -13,32 +13,24 @@ pub struct Lanes {
     pub put: u64,
 }
 
-// The place below the top bit, if a lane has one.
-fn below(k: usize) -> u64
-    requires { 0 < k }
-    ensures { result ≡ min 1 (k - 1) }
-{
-    if k == 1 { 0 } else { 1 }
-}
-
 // The first n lanes of k bits.
 pub fn cut(k: usize, n: usize) -> Lanes
     requires { (0 < k) × (k ≤ 8) × (n * k ≤ 64) }
     ensures { InLanes (k - 1) n result }
 {
-    let one: u64 = 1 << ((k - 1) as u64);
-    let mut low: u64 = 0;
-    let mut top: u64 = 0;
-    let mut i = 0;
-    while i < n {
-        low = (low << (k as u64)) + (one - 1);
-        top = (top << (k as u64)) + one;
-        i += 1;
+    let below = k as u64 - 1;
+    let one = 1 << below;
+    let mut low = 0;
+    let mut top = 0;
+    for _lane in 0..n {
+        low = (low << k) + (one - 1);
+        top = (top << k) + one;
     }
     Lanes {
-        low: low,
-        top: top,
-        put: below(k),
+        low,
+        top,
+        // The place below the top bit, if a lane has one.
+        put: below.min(1),
     }
 }
 
@@ -58,5 +50,5 @@ pub fn filled(x: Cells, lanes: Lanes) -> u64
 {
     let ones = some(x.unit ^ x.sign, lanes);
     let twos = some(x.sign, lanes);
-    u64::count_ones((ones >> lanes.put) | twos) as u64
+    u64::from(((ones >> lanes.put) | twos).count_ones())
 }

@@ -11,6 +11,8 @@ pub mod negation;
 pub mod scaling;
 pub mod sum;
 
+// That no sign stands without its unit is no ghost field: loads and the tests of faults hold words of any bits, and would need a second type of the same
+// two words.
 #[derive(Clone, Copy)]
 pub struct Cells {
     pub unit: u64,

@@ -12,8 +12,9 @@ pub fn lowest(x: u64) -> Peeled
     requires { 0 < x }
     ensures { Peels 64 x result.at result.rest }
 {
+    // The back end counts for 0 too: a table step of one word a plane takes 26 instructions where it took 25. Tried with a test for 0: 28.
     Peeled {
-        at: u64::trailing_zeros(x),
+        at: x.trailing_zeros(),
         rest: x & (x - 1),
     }
 }

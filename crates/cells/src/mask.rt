@@ -5,5 +5,5 @@ pub fn low(n: u64) -> u64
     requires { (0 < n) × (n ≤ 64) }
     ensures { result ≡ 2 ^ n - 1 }
 {
-    18446744073709551615 >> (64 - n)
+    u64::MAX >> (64 - n)
 }

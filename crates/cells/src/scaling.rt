@@ -1,4 +1,5 @@
-// A digit times the digit at each place. The digit's bits are spread over all 64 places, so that it decides no branch.
+// A digit times the digit at each place. The digit's bits are spread over all 64 places, so that it decides no branch. It is a number below 3, as mul3 and
+// combine have it: a type of its own would be made and taken apart where a request has tested it.
 ghost use Rattle.std.specs.Prelude.{ℕ, ◌<◌};
 ghost use Rattle.cells.specs.Digit.{mul3};
 ghost use Rattle.cells.specs.Pair.{Good, at, Is};
@@ -12,8 +13,8 @@ pub fn spread(d: u64) -> Cells
     ensures { Spread d result.unit result.sign }
 {
     Cells {
-        unit: std::num::wrapping_sub_u64(0, (d + 1) >> 1),
-        sign: std::num::wrapping_sub_u64(0, d >> 1),
+        unit: ((d + 1) >> 1).wrapping_neg(),
+        sign: (d >> 1).wrapping_neg(),
     }
 }
 
@@ -25,7 +26,7 @@ pub fn product(x: Cells, y: Cells) -> Cells
     let unit = x.unit & y.unit;
     let sign = x.sign ^ y.sign;
     Cells {
-        unit: unit,
+        unit,
         sign: unit & sign,
     }
 }

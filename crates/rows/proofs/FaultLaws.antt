@@ -20,6 +20,7 @@ use Rattle.cells.proofs.FaultLaws.{stray_none, stray_some}
 use Rattle.buffers.specs.Buffer.{planes, bit_at}
 use Rattle.buffers.proofs.SizeLaws.{planes_room, planes_tight, bit_at_word}
 use borrow.Author.Tests.{ltb-false}
+use Rattle.std.proofs.Common.{Option, None, Some, MatchOption, IsSome}
 use Rattle.rows.specs.Row.{digit_at, column, LegalRow}
 use Rattle.rows.specs.Fault.{stray_row, padded_row, stray_column, padded_column, Found}
 
@@ -196,6 +197,28 @@ stray_begin ws x q = refl
 -- a row with a fault has one in its words
 pub stray_nowhere : (ws : List ℕ) (x q c : ℕ) → q ≡ planes c → stray_row ws x q c ≡ true → stray_row ws x q (64 * q) ≡ false → ⊥
 stray_nowhere ws x q c e h k = true_false (stray_row ws x q c) h (stray_fewer ws x q c (64 * q) (omega (arith, planes_room c)) k)
+
+-- pair p of a row at word x has a stray sign
+abbrev pub stray_in_pair : List ℕ → ℕ → ℕ → ℕ → Bool
+stray_in_pair ws x q p = any 64 (λ t. ltb (bit (get_or ws (x + p) 0) t) (bit (get_or ws (x + p + q) 0) t))
+
+-- what a search says that finds the first such pair
+abbrev pub FirstPair : List ℕ → ℕ → ℕ → Option ℕ → Type 0
+FirstPair ws x q r =
+    MatchOption r ((k : ℕ) → 0 ≤ k → k < q → stray_in_pair ws x q k ≡ false) (λ i. (0 ≤ i) × (i < q) × (stray_in_pair ws x q i ≡ true) × ((k : ℕ) → 0 ≤ k → k < i → stray_in_pair ws x q k ≡ false))
+
+pub stray_before : (ws : List ℕ) (x q n : ℕ) → ((p : ℕ) → p < n → stray_in_pair ws x q p ≡ false) → stray_row ws x q (64 * n) ≡ false
+stray_before ws x q zero none = stray_begin ws x q
+stray_before ws x q (suc n) none =
+    let e : suc n ≡ n + 1 = omega arith in
+    rw e (stray_next ws x q n _ _ refl refl (stray_before ws x q n (λ p l. none p (omega arith))) (none n (omega arith)))
+
+pub first_pair : (ws : List ℕ) (x q c : ℕ) → q ≡ planes c → stray_row ws x q c ≡ true → (r : Option ℕ) → FirstPair ws x q r → IsSome r
+first_pair ws x q c e h r found = go r found
+  where
+    go : (r : Option ℕ) → FirstPair ws x q r → IsSome r
+    go None none = absurd (stray_nowhere ws x q c e h (stray_before ws x q q (λ k l. none k (omega arith) l)))
+    go (Some i) f = refl
 
 pub padded_partly : (ws : List ℕ) (x q c : ℕ) → q ≡ planes c → padded_row ws x q c ≡ true → c % 64 ≡ 0 → ⊥
 padded_partly ws x q c e h z = true_false (padded_row ws x q c) h (sym (padded_full ws x q c e z))

@@ -10,7 +10,7 @@ use lib.Seq.{get_or-set_same, get_or-set_other, set_comm, ext_get_or}
 use Rattle.cells.specs.Pair.{digit, LegalPair, Holds, WordPair}
 use Rattle.cells.proofs.PairLaws.{holds_cong}
 use Rattle.cells.proofs.EncodeLaws.{same}
-use Rattle.rows.specs.Row.{digit_at, LegalRow, of1, of2, Made, Written, Readable, InPlace}
+use Rattle.rows.specs.Row.{digit_at, LegalRow, of1, of2, Made, Written, Readable, InPlace, from}
 
 -- ---- none, one and more pairs
 
@@ -108,16 +108,11 @@ load_legal a x q n p i u s L h e eu es =
 pub next_sign : (a : List ℕ) (y q w : ℕ) → w ≡ get_or a (y + q + 1) 0 → w ≡ get_or a (y + 1 + q) 0
 next_sign a y q w e = let p : y + q + 1 ≡ y + 1 + q = omega arith in rw p at e
 
-loaded : (a : List ℕ) (x q p i u s : ℕ) → i ≡ x + p → u ≡ get_or a i 0 → s ≡ get_or a (i + q) 0 → (t : ℕ) → digit u s t ≡ digit_at a x q p t
+pub loaded : (a : List ℕ) (x q p i u s : ℕ) → i ≡ x + p → u ≡ get_or a i 0 → s ≡ get_or a (i + q) 0 → (t : ℕ) → digit u s t ≡ digit_at a x q p t
 unfolding digit_at
 loaded a x q p i u s e eu es t =
     let d : i + q ≡ x + q + p = omega arith in
     rw (eu, es, d, e)
-
-pub pair1 : (op : ℕ → ℕ) (q : ℕ) (a : List ℕ) (x p i u s v r : ℕ) → i ≡ x + p → u ≡ get_or a i 0 → s ≡ get_or a (i + q) 0
-    → Holds (λ t. op (digit u s t)) v r → v < 2 ^ 64 → r < 2 ^ 64 → WordPair (of1 op q a x p) v r
-unfolding of1
-pair1 op q a x p i u s v r e eu es H hv hr = record { holds = holds_cong (λ t. ap op (loaded a x q p i u s e eu es t)) H; unit_fits = hv; sign_fits = hr }
 
 pub pair2 : (op : ℕ → ℕ → ℕ) (q : ℕ) (a : List ℕ) (x i u s : ℕ) (b : List ℕ) (y j w z p v r : ℕ)
     → i ≡ x + p → u ≡ get_or a i 0 → s ≡ get_or a (i + q) 0 → j ≡ y + p → w ≡ get_or b j 0 → z ≡ get_or b (j + q) 0
@@ -125,6 +120,21 @@ pub pair2 : (op : ℕ → ℕ → ℕ) (q : ℕ) (a : List ℕ) (x i u s : ℕ) 
 unfolding of2
 pair2 op q a x i u s b y j w z p v r e eu es f ew ez H hv hr =
     record { holds = holds_cong (λ t. ap₂ op (loaded a x q p i u s e eu es t) (loaded b y q p j w z f ew ez t)) H; unit_fits = hv; sign_fits = hr }
+
+pub pair1 : (op : ℕ → ℕ) (q : ℕ) (a : List ℕ) (x p i u s v r : ℕ) → i ≡ x + p → u ≡ get_or a i 0 → s ≡ get_or a (i + q) 0
+    → Holds (λ t. op (digit u s t)) v r → v < 2 ^ 64 → r < 2 ^ 64 → WordPair (of1 op q a x p) v r
+unfolding of1
+pair1 op q a x p i u s v r e eu es H hv hr = record { holds = holds_cong (λ t. ap op (loaded a x q p i u s e eu es t)) H; unit_fits = hv; sign_fits = hr }
+
+-- what a word operation makes of pairs that hold the digits of rows
+pub made_of1 : (op : ℕ → ℕ) (q : ℕ) (a : List ℕ) (x p : ℕ) {u s v r : ℕ} → Holds (digit_at a x q p) u s → Holds (λ t. op (digit u s t)) v r → Holds (of1 op q a x p) v r
+unfolding of1
+made_of1 op q a x p A H = holds_cong (λ t. ap op (A.digits t)) H
+
+pub made_of2 : (op : ℕ → ℕ → ℕ) (q : ℕ) (a : List ℕ) (x : ℕ) (b : List ℕ) (y p : ℕ) {u s w z v r : ℕ}
+    → Holds (digit_at a x q p) u s → Holds (digit_at b y q p) w z → Holds (λ t. op (digit u s t) (digit w z t)) v r → Holds (of2 op q a x b y p) v r
+unfolding of2
+made_of2 op q a x b y p A B H = holds_cong (λ t. ap₂ op (A.digits t) (B.digits t)) H
 
 -- the digits of a row go by its words
 pub digit_at_by : (a b : List ℕ) (x y q p r : ℕ) → get_or a (x + p) 0 ≡ get_or b (y + r) 0 → get_or a (x + q + p) 0 ≡ get_or b (y + q + r) 0 → (t : ℕ) → digit_at a x q p t ≡ digit_at b y q r t
@@ -149,20 +159,21 @@ readable_part q n j m y k a e h R = record { room = omega (arith, R.room); legal
         let i : k + q + p ≡ y + q + (j + p) = omega arith in
         rw (d, i) (R.legal (j + p) (omega arith))
 
-made_on : (f g : ℕ → ℕ → ℕ) (x q j m n : ℕ) (old mid new : List ℕ) → n ≡ j + m → n ≤ q → ((p t : ℕ) → g p t ≡ f (j + p) t)
-    → Made f x q j old mid → Made g (x + j) q m mid new → Made f x q n old new
-made_on f g x q j m n old mid new e h same M N =
-    made_count f x q (j + m) n old new (sym e) (made_more f g x q j m old mid new (omega arith) (λ p t l. same p t) M N)
+pub made_first : (f : ℕ → ℕ → ℕ) (x q n : ℕ) {old new : List ℕ} → Made (from f 0) x q n old new → Made f x q n old new
+made_first f x q n M = made_cong (from f 0) f x q n _ _ (λ p t l. let e : 0 + p ≡ p = omega arith in ap (λ (k : ℕ). f k t) e) M
 
+-- j pairs, and then m pairs more of the same digits
+pub more : (f : ℕ → ℕ → ℕ) (x q j m n : ℕ) (old mid new : List ℕ) → n ≡ j + m → n ≤ q
+    → Made f x q j old mid → Made (from f j) (x + j) q m mid new → Made f x q n old new
+more f x q j m n old mid new e h M N =
+    made_count f x q (j + m) n old new (sym e) (made_more f (from f j) x q j m old mid new (omega arith) (λ p t l. refl) M N)
+
+-- the same of what an operation makes of a row
 pub more1 : (op : ℕ → ℕ) (q : ℕ) (a : List ℕ) (x y j m n : ℕ) (old mid new : List ℕ) → n ≡ j + m → n ≤ q
     → Made (of1 op q a y) x q j old mid → Made (of1 op q a (y + j)) (x + j) q m mid new → Made (of1 op q a y) x q n old new
 unfolding of1
-more1 op q a x y j m n old mid new e h = made_on _ _ x q j m n old mid new e h (λ p t. ap op (digit_at_later a y q j p t))
-
-pub more2 : (op : ℕ → ℕ → ℕ) (q : ℕ) (a b : List ℕ) (x y z j m n : ℕ) (old mid new : List ℕ) → n ≡ j + m → n ≤ q
-    → Made (of2 op q a y b z) x q j old mid → Made (of2 op q a (y + j) b (z + j)) (x + j) q m mid new → Made (of2 op q a y b z) x q n old new
-unfolding of2
-more2 op q a b x y z j m n old mid new e h = made_on _ _ x q j m n old mid new e h (λ p t. ap₂ op (digit_at_later a y q j p t) (digit_at_later b z q j p t))
+more1 op q a x y j m n old mid new e h M N =
+    made_count _ x q (j + m) n old new (sym e) (made_more _ _ x q j m old mid new (omega arith) (λ p t l. ap op (digit_at_later a y q j p t)) M N)
 
 -- ---- in place: the pairs that are still to be read are as they were
 

@@ -1,7 +1,8 @@
 -- A row as a part of a slice of words: pair p of the row at word x is the unit word x + p and the sign word x + q + p, where q is the
 -- distance between its planes. What a row operation leaves of the whole slice. Assumes nothing.
 use Rattle.std.specs.Prelude.{◌≡◌, List, ◌⊎◌, ℕ, ◌+◌, ◌/◌, ◌%◌, ◌≤◌, ◌<◌, length, get_or}
-use Rattle.cells.specs.Pair.{digit, LegalPair, WordPair}
+use Rattle.cells.specs.declared.Cells.{Cells}
+use Rattle.cells.specs.Pair.{digit, LegalPair, WordPair, Is}
 
 -- the digit at place t of pair p of the row at word x
 unfoldable pub digit_at : List ℕ → ℕ → ℕ → ℕ → ℕ → ℕ
@@ -29,6 +30,14 @@ pub record Made (f : ℕ → ℕ → ℕ) (x q n : ℕ) (old new : List ℕ) : T
   pub before : (k : ℕ) → k < x → get_or new k 0 ≡ get_or old k 0
   pub between : (k : ℕ) → x + n ≤ k → k < x + q → get_or new k 0 ≡ get_or old k 0
   pub after : (k : ℕ) → x + q + n ≤ k → get_or new k 0 ≡ get_or old k 0
+
+-- whatever a rule gives for the pairs of a row of q pairs holds the digits f
+abbrev pub Gives : (ℕ → Cells → Type 0) → ℕ → (ℕ → ℕ → ℕ) → Type 0
+Gives rule q f = (p : ℕ) (v : Cells) → p < q → rule p v → Is (f p) v
+
+-- the digits from pair j on
+abbrev pub from : (ℕ → ℕ → ℕ) → ℕ → ℕ → ℕ → ℕ
+from f j p t = f (j + p) t
 
 -- the n words from word x on are those of f, and every other word is as it was
 pub record Written (f : ℕ → ℕ) (x n : ℕ) (old new : List ℕ) : Type 0 where

@@ -10,12 +10,10 @@ pub fn strays(a: &[u64], q: usize, n: usize, x: usize) -> u64
     requires { (n ≤ q) × (x + (q + q) ≤ length a.now) }
     ensures { Found result (stray_row a.now x q (64 * n)) }
 {
-    let mut bad: u64 = 0;
-    let mut p = 0;
-    while p < n {
+    let mut bad = 0;
+    for p in 0..n {
         let v = load(a, q, x + p);
-        bad = bad | (v.sign & (v.sign ^ v.unit));
-        p += 1;
+        bad |= v.sign & (v.sign ^ v.unit);
     }
     bad
 }
@@ -29,11 +27,7 @@ pub fn stray(a: &[u64], q: usize, c: usize, x: usize) -> bool
         return false;
     }
     let last = q - 1;
-    if strays(a, q, last, x) != 0 {
-        return true;
-    }
-    let v = load(a, q, x + last);
-    cells::fault::stray(v, (c - 64 * last) as u64)
+    strays(a, q, last, x) != 0 || cells::fault::stray(load(a, q, x + last), (c - 64 * last) as u64)
 }
 
 // A padding bit is set: it can stand in the last word of a plane alone.
@@ -42,11 +36,7 @@ pub fn padded(a: &[u64], q: usize, c: usize, x: usize) -> bool
     ensures { result ≡ padded_row a.now x q c }
 {
     let n = c % 64;
-    if n == 0 {
-        return false;
-    }
-    let v = load(a, q, x + (q - 1));
-    cells::fault::padded(v, n as u64)
+    n != 0 && cells::fault::padded(load(a, q, x + (q - 1)), n as u64)
 }
 
 // The first column with sign without unit, of a row that has one. Real columns come before padding, so no place needs a mask.
@@ -54,15 +44,10 @@ pub fn stray_column(a: &[u64], q: usize, c: usize, x: usize) -> usize
     requires { (q ≡ planes c) × (c ≤ 1024) × (x + (q + q) ≤ length a.now) × (stray_row a.now x q c ≡ true) }
     ensures { result ≡ stray_column a.now x q c }
 {
-    let mut p = 0;
-    while p < q {
-        let v = load(a, q, x + p);
-        if cells::fault::stray(v, 64) {
-            return 64 * p + cells::fault::first_stray(v) as usize;
-        }
-        p += 1;
-    }
-    c
+    let p = (0..q)
+        .find(|p| cells::fault::stray(load(a, q, x + *p), 64))
+        .unwrap();
+    64 * p + cells::fault::first_stray(load(a, q, x + p)) as usize
 }
 
 // The position of the first padding bit, of a row that has one.

@@ -4,7 +4,7 @@ ghost use Rattle.std.specs.Prelude.{◌+◌, ◌≤◌, length};
 ghost use Rattle.cells.specs.Digit.{combine};
 ghost use Rattle.rows.specs.Row.{of2, Made, Readable};
 
-use super::add::add_row;
+use super::accumulate::accumulate_row;
 use super::in_place::one;
 
 pub fn table_step(t: &mut [u64], b: &[u64], q: usize, x: usize, y: usize, z: usize)
@@ -15,8 +15,8 @@ pub fn table_step(t: &mut [u64], b: &[u64], q: usize, x: usize, y: usize, z: usi
     let at = x - y;
     // A row of one pair pays for nothing that longer rows need.
     if q == 1 {
-        one(&mut t[y..e], b, q, q, at, 0, z, 1);
-        return;
+        one::<1>(&mut t[y..e], b, q, at, 0, z);
+    } else {
+        accumulate_row::<1>(&mut t[y..e], b, q, at, 0, z);
     }
-    add_row(&mut t[y..e], b, q, at, 0, z);
 }

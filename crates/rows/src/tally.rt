@@ -13,17 +13,15 @@ pub fn tally(a: &[u64], q: usize, c: usize, x: usize) -> [u64; 3]
     requires { (q ≡ planes c) × (c ≤ 1024) × Readable q q x a.now }
     ensures { result ≡ tally_row (column a.now x q) c }
 {
-    let mut zeros: u64 = 0;
-    let mut ones: u64 = 0;
-    let mut twos: u64 = 0;
-    let mut p = 0;
-    while p < q {
+    let mut zeros = 0;
+    let mut ones = 0;
+    let mut twos = 0;
+    for p in 0..q {
         let mask = low(real(c, p) as u64);
         let n = counts(load(a, q, x + p), mask);
         zeros += n[0];
         ones += n[1];
         twos += n[2];
-        p += 1;
     }
     [zeros, ones, twos]
 }

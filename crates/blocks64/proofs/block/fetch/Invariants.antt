@@ -1,10 +1,7 @@
-use Prim.Native.Nat.{◌+◌, ◌*◌, ◌≤◌, ◌-◌}
+use Prim.Native.Nat.{◌+◌, ◌*◌}
 use lib.ListN.{get_or}
 use Rattle.rows.specs.Row.{Written}
 use Rattle.blocks64.proofs.block.fetch.Given as goal
 
 abbrev pub invariant-loop-t : goal.invariant-loop-t
-invariant-loop-t l = (l.t ≤ l.n) × Written (λ t. get_or l.a (l.x + t * l.w) 0) 0 l.t l.initial.block l.block
-
-abbrev pub decreases-loop-t : goal.decreases-loop-t
-decreases-loop-t l = l.n - l.t
+invariant-loop-t l = Written (λ t. get_or l.a (l.x + t * l.w) 0) 0 l.t l.initial.block l.block

@@ -4,4 +4,4 @@ use Rattle.std.proofs.Common.{arith}
 use Rattle.cells.proofs.scaling.spread.Goals as goal
 
 pub returns : goal.returns
-returns c = spread_law c.args.d c.wrapping_sub_u64.result c.wrapping_sub_u64-2.result c.requires (omega arith) (omega arith) c.wrapping_sub_u64.ensures.value c.wrapping_sub_u64-2.ensures.value
+returns c = spread_law c.args.d c.wrapping_neg.result c.wrapping_neg-2.result c.requires (omega arith) (omega arith) c.wrapping_neg.ensures c.wrapping_neg-2.ensures

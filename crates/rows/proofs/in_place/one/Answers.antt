@@ -4,10 +4,10 @@ use native.Mathlib.Omega.{arith}
 use Rattle.rows.proofs.in_place.one.Goals as goal
 
 pub combination-v-requires : goal.combination-v-requires
-combination-v-requires c =
-    (load_legal c.args.t.now c.args.y c.args.q c.args.n 0 c.args.y _ _ c.requires.1.first.legal (omega arith) (omega arith) c.load_at.ensures.0 c.load_at.ensures.1, load_legal c.args.b.now c.args.z c.args.q c.args.n 0 c.args.z _ _ c.requires.1.second.legal (omega arith) (omega arith) c.load_at-2.ensures.0 c.load_at-2.ensures.1, c.requires.2)
+combination-v-requires g c =
+    (load_legal c.args.t.now c.args.y c.args.q 1 0 c.args.y _ _ c.requires.0.first.legal (omega arith) (omega arith) c.load_at.ensures.0 c.load_at.ensures.1, load_legal c.args.b.now c.args.z c.args.q 1 0 c.args.z _ _ c.requires.0.second.legal (omega arith) (omega arith) c.load_at-2.ensures.0 c.load_at-2.ensures.1, c.requires.1)
 
 pub returns : goal.returns
-returns c =
-    rw (c.store.ensures, c.requires.0)
-    (made_store _ c.args.x c.args.q _ _ _ (omega arith) (omega arith) (pair2 (combine c.args.d) c.args.q c.args.t.now c.args.y c.args.y _ _ c.args.b.now c.args.z c.args.z _ _ 0 _ _ (omega arith) c.load_at.ensures.0 c.load_at.ensures.1 (omega arith) c.load_at-2.ensures.0 c.load_at-2.ensures.1 c.combination-v.ensures (omega (arith, c.combination-v.type_inv)) (omega (arith, c.combination-v.type_inv))))
+returns g c =
+    rw c.store.ensures
+    (made_store _ c.args.x c.args.q _ _ _ (omega arith) (omega arith) (pair2 (combine g.row.D) c.args.q c.args.t.now c.args.y c.args.y _ _ c.args.b.now c.args.z c.args.z _ _ 0 _ _ (omega arith) c.load_at.ensures.0 c.load_at.ensures.1 (omega arith) c.load_at-2.ensures.0 c.load_at-2.ensures.1 c.combination-v.ensures (omega (arith, c.combination-v.type_inv)) (omega (arith, c.combination-v.type_inv))))
