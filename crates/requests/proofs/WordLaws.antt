@@ -6,15 +6,14 @@ use Prim.Native.Nat.{ℕ, zero, suc, ◌+◌, ◌*◌, ◌%◌, ◌^◌, ◌≤�
 use native.Mathlib.Omega.{arith}
 use lib.Dec.{T, ltb, ltb→lt}
 use borrow.Author.Tests.{lt-ltb}
-use Rattle.requests.specs.declared.Answer.{Answer}
-use Rattle.requests.specs.declared.Answer.TheVariants.{Done, Refused}
+use Rattle.std.specs.Prelude.{Result, Ok, Err}
 use Rattle.requests.specs.declared.Reason.{Reason}
 use Rattle.requests.specs.declared.Reason.TheVariants.{TooLarge, SizesDiffer, WidthWrong, LengthWrong, StraySign, PaddingSet, StepsExceed, DigitWrong, ScaleWrong, NotAFrame, AboveLimit}
 use Rattle.requests.specs.declared.Buffer.{Buffer}
 use Rattle.requests.specs.declared.Buffer.TheVariants.{First, Second, Third, Fourth}
 use Rattle.requests.specs.declared.Place.{Place}
-use Rattle.requests.specs.Answers.{buffer_number, placed, reason_word, word, Fits, TypedReason, Typed, number_in, buffer_in, row_in, column_in, Tests, first, answered}
-use Rattle.requests.proofs.AnswerLaws.{both}
+use Rattle.requests.specs.Answers.{buffer_number, placed, Answer, reason_word, word, told, Fits, TypedReason, Typed, number_in, buffer_in, row_in, column_in, Tests, first, answered}
+use Rattle.requests.proofs.AnswerLaws.{both, refused}
 
 -- ---- a number and its place in one word
 
@@ -73,9 +72,9 @@ reason_fits ScaleWrong h = omega arith
 reason_fits NotAFrame h = omega arith
 reason_fits AboveLimit h = omega arith
 
-pub word_fits : (a : Answer) → Typed a → word a < 2 ^ 64
-word_fits Done h = omega arith
-word_fits (Refused r) h = reason_fits r h
+pub word_fits : {T : Type 0} (a : Result T Reason) → Typed a → word a < 2 ^ 64
+word_fits (Ok x) h = omega arith
+word_fits (Err r) h = reason_fits r h
 
 -- a reason's number is not 0, and so its word is not
 pub reason_number : (r : Reason) → number_in (reason_word r) ≡ 0 → ⊥
@@ -94,9 +93,9 @@ reason_number AboveLimit e = omega (arith, e)
 pub some_reason : (r : Reason) → reason_word r ≡ 0 → ⊥
 some_reason r e = reason_number r (ap (λ (w : ℕ). w % 2 ^ 8) e)
 
-pub number_zero : (a : Answer) → number_in (word a) ≡ 0 → word a ≡ 0
-number_zero Done e = refl
-number_zero (Refused r) e = absurd (reason_number r e)
+pub number_zero : {T : Type 0} (a : Result T Reason) → number_in (word a) ≡ 0 → word a ≡ 0
+number_zero (Ok x) e = refl
+number_zero (Err r) e = absurd (reason_number r e)
 
 -- ---- the reason of a word
 
@@ -168,10 +167,17 @@ pub reason_same : (r s : Reason) → TypedReason r → TypedReason s → reason_
 reason_same r s h k e = sym (named_word r h) ∙ ap named e ∙ named_word s k
 
 pub word_same : (a b : Answer) → Typed a → Typed b → word a ≡ word b → a ≡ b
-word_same Done Done h k e = refl
-word_same Done (Refused s) h k e = absurd (some_reason s (sym e))
-word_same (Refused r) Done h k e = absurd (some_reason r e)
-word_same (Refused r) (Refused s) h k e = ap Refused (reason_same r s h k e)
+word_same (Ok x) (Ok y) h k e = refl
+word_same (Ok x) (Err s) h k e = absurd (some_reason s (sym e))
+word_same (Err r) (Ok y) h k e = absurd (some_reason r e)
+word_same (Err r) (Err s) h k e = ap Err (reason_same r s h k e)
+
+-- .. and so is one that holds a value, by its word and its value
+pub told_same : {S : Type 0} (none : S) (a b : Result S Reason) → Typed a → Typed b → told none a ≡ told none b → a ≡ b
+told_same {S = S} none (Ok x) (Ok y) h k e = ap Ok (ap (λ (o : ℕ × S). o.1) e)
+told_same {S = S} none (Ok x) (Err s) h k e = absurd (some_reason s (sym (ap (λ (o : ℕ × S). o.0) e)))
+told_same {S = S} none (Err r) (Ok y) h k e = absurd (some_reason r (ap (λ (o : ℕ × S). o.0) e))
+told_same {S = S} none (Err r) (Err s) h k e = ap Err (reason_same r s h k (ap (λ (o : ℕ × S). o.0) e))
 
 -- ---- two outcomes that satisfy one statement coincide
 
@@ -202,9 +208,9 @@ small_reason ScaleWrong h = tt
 small_reason NotAFrame h = tt
 small_reason AboveLimit h = tt
 
-small_typed : (a : Answer) → word a < 2 ^ 8 → Typed a
-small_typed Done h = tt
-small_typed (Refused r) h = small_reason r h
+small_typed : {T : Type 0} (a : Result T Reason) → word a < 2 ^ 8 → Typed a
+small_typed (Ok x) h = tt
+small_typed (Err r) h = small_reason r h
 
 abbrev pub placeless : Tests → Bool
 placeless [] = true
@@ -216,10 +222,18 @@ placeless_first [] h = omega arith
 placeless_first ((true, n) ∷ ts) h = ltb→lt n (2 ^ 8) (both (ltb n (2 ^ 8)) (placeless ts) h).0
 placeless_first ((false, n) ∷ ts) h = placeless_first ts (both (ltb n (2 ^ 8)) (placeless ts) h).1
 
+-- an answer whose tests have no place has none
+pub placeless_typed : {S T₁ : Type 0} (ts : Tests) (old new : S) (a : Result T₁ Reason) (s : S) → T (placeless ts) → (word a, s) ≡ answered ts old new → Typed a
+unfolding answered
+placeless_typed {S = S} ts old new a s h e = small_typed a (subst⁻¹ (λ (n : ℕ). n < 2 ^ 8) (ap (λ (o : ℕ × S). o.0) e) (placeless_first ts h))
+
 pub coincide_placeless : {S : Type 0} (ts : Tests) (old new : S) (a b : Answer) (s t : S) → T (placeless ts) → (word a, s) ≡ answered ts old new → (word b, t) ≡ answered ts old new
     → (a ≡ b) × (s ≡ t)
-unfolding answered
-coincide_placeless {S = S} ts old new a b s t h p q =
-    let small : (x : Answer) (y : S) → (word x, y) ≡ answered ts old new → Typed x =
-    λ x y e. small_typed x (subst⁻¹ (λ (n : ℕ). n < 2 ^ 8) (ap (λ (o : ℕ × S). o.0) e) (placeless_first ts h)) in
-    coincide (answered ts old new) a b s t (small a s p) (small b t q) p q
+coincide_placeless ts old new a b s t h p q =
+    coincide (answered ts old new) a b s t (placeless_typed ts old new a s h p) (placeless_typed ts old new b t h q) p q
+
+-- ---- the two ways out of a request
+
+-- it is refused by a reason, and what was there is left
+pub refused_by : {S : Type 0} (ts : Tests) (old new : S) (r : Reason) → reason_word r ≡ first ts → (reason_word r, old) ≡ answered ts old new
+refused_by ts old new r e = refused ts old new (reason_word r) (some_reason r) (sym e)

@@ -1,12 +1,10 @@
 -- The words that come back, each a number and its place, and the answer that a list of tests gives. Assumes nothing.
-use Rattle.std.specs.Prelude.{Bool, true, false, List, [], ◌∷◌, ℕ, zero, suc, ◌+◌, ◌*◌, ◌/◌, ◌%◌, ◌^◌, ◌<◌}
+use Rattle.std.specs.Prelude.{Bool, true, false, List, [], ◌∷◌, Result, Ok, Err, ℕ, zero, suc, ◌+◌, ◌*◌, ◌/◌, ◌%◌, ◌^◌, ◌<◌}
 use Rattle.requests.specs.declared.Buffer.{Buffer}
 use Rattle.requests.specs.declared.Buffer.TheVariants.{First, Second, Third, Fourth}
 use Rattle.requests.specs.declared.Place.{Place}
 use Rattle.requests.specs.declared.Reason.{Reason}
 use Rattle.requests.specs.declared.Reason.TheVariants.{TooLarge, SizesDiffer, WidthWrong, LengthWrong, StraySign, PaddingSet, StepsExceed, DigitWrong, ScaleWrong, NotAFrame, AboveLimit}
-use Rattle.requests.specs.declared.Answer.{Answer}
-use Rattle.requests.specs.declared.Answer.TheVariants.{Done, Refused}
 
 abbrev pub buffer_number : Buffer → ℕ
 buffer_number First = 1
@@ -31,9 +29,22 @@ reason_word ScaleWrong = 8
 reason_word NotAFrame = 10
 reason_word AboveLimit = 11
 
-abbrev pub word : Answer → ℕ
-word Done = 0
-word (Refused r) = reason_word r
+-- what a request answers that holds nothing where it is done
+abbrev pub Answer : Type 0
+Answer = Result (Unit {0}) Reason
+
+abbrev pub word : {T : Type 0} → Result T Reason → ℕ
+word (Ok x) = 0
+word (Err r) = reason_word r
+
+-- what an answer holds; refused it holds nothing, and `none` stands for it
+abbrev pub held : {S : Type 0} → S → Result S Reason → S
+held none (Ok x) = x
+held none (Err r) = none
+
+-- what an answer says: its word, and what it holds
+abbrev pub told : {S : Type 0} → S → Result S Reason → ℕ × S
+told none a = (word a, held none a)
 
 -- an answer as its types hold it: in a place, a row of 16 bits and a column of 32
 pub record Fits (p : Place) : Type 0 where
@@ -53,9 +64,9 @@ TypedReason ScaleWrong = Unit {0}
 TypedReason NotAFrame = Unit {0}
 TypedReason AboveLimit = Unit {0}
 
-abbrev pub Typed : Answer → Type 0
-Typed Done = Unit {0}
-Typed (Refused r) = TypedReason r
+abbrev pub Typed : {T : Type 0} → Result T Reason → Type 0
+Typed (Ok x) = Unit {0}
+Typed (Err r) = TypedReason r
 
 -- what a word says: its number, and buffer, row and column, all 0 where there is no place
 abbrev pub number_in : ℕ → ℕ
