@@ -1,9 +1,13 @@
 -- Counts of steps from the bits of A's rows. Assumes nothing.
 use mathlib.Core.Path.{◌≡◌, sym, ap, ap₂, ◌∙◌}
 use mathlib.Core.List.{List}
-use Prim.Native.Nat.{ℕ, suc, ◌+◌, ◌-◌, ◌*◌, ◌%◌, ◌^◌, ◌≤◌, ◌<◌, min}
+use Prim.Native.Nat.{ℕ, suc, ◌+◌, ◌-◌, ◌*◌, ◌/◌, ◌%◌, ◌^◌, ◌≤◌, ◌<◌, min}
 use native.Mathlib.Numerals.{add-one}
 use native.Mathlib.Omega.{arith}
+use native.Mathlib.Decide.{dec_lt}
+use native.Mathlib.Nat.{suc-mul, le-div_iff_mul-le}
+use Rattle.std.specs.Int.{div_ceil}
+use Rattle.std.proofs.lemmas.Grind.{div_ceil_times}
 use borrow.Author.Count.{below_more}
 use lib.Pow.{pow_mono}
 use lib.Dec.{eqb}
@@ -53,6 +57,18 @@ count_small A s w i h = omega (arith, pow_small w h, sum_le (row_count A s w) (�
     two i = omega (arith, row_le A s w i)
 
 -- ---- blocks
+
+-- the blocks are l / k rounded up
+pub rounded_up : (l k n : ℕ) → 0 < k → n ≡ div_ceil l k → n ≡ blocks l k
+unfolding blocks
+rounded_up l k n pos e =
+    let room = div_ceil_times l k pos in
+    let same : n * k ≡ div_ceil l k * k = ap (λ (x : ℕ). x * k) e in
+    go (dec_lt n ((l + (k - 1)) / k)) ((le-div_iff_mul-le pos).1 (omega (arith, same, room.0))) (λ h. omega (arith, (le-div_iff_mul-le pos).0 h, suc-mul n k, same, room.1))
+  where
+    go : Dec (n < (l + (k - 1)) / k) → n ≤ (l + (k - 1)) / k → (suc n ≤ (l + (k - 1)) / k → ⊥) → n ≡ (l + (k - 1)) / k
+    go (yes h) over less = absurd (less h)
+    go (no h) over less = omega arith
 
 module _ (m l k : ℕ) (A : Matrix) where
   pub place_more : (b total c w : ℕ) → w ≡ block_width l k b → total ≡ sum 0 b (count_at m l k A) → c ≡ block_count m A (b * k) w → total + c ≡ sum 0 (b + 1) (count_at m l k A)

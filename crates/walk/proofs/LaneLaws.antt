@@ -12,7 +12,7 @@ use lib.ListN.{length}
 use Rattle.cells.specs.Bit.{bit, word_of}
 use Rattle.cells.specs.Counts.{sum, is, bits_of}
 use Rattle.cells.specs.Digit.{Matrix}
-use Rattle.cells.specs.Pair.{LegalPair, Good}
+use Rattle.cells.specs.Pair.{LegalPair}
 use Rattle.cells.specs.Lanes.{filled, InLanes}
 use Rattle.cells.specs.declared.Cells.{Cells}
 use Rattle.cells.specs.declared.lanes.Lanes.{Lanes}
@@ -29,7 +29,7 @@ use Rattle.steps.specs.StepList.{P, N, blocks, block_width}
 use Rattle.steps.specs.Count.{row_count, block_count, count_at}
 use Rattle.steps.proofs.Loops.{blocks_within, width_le}
 use Rattle.steps.proofs.Counts.{row_le}
-use Rattle.walk.specs.Many.{Fitting, row_of}
+use Rattle.walk.specs.Many.{Fitting, row_of, Counted}
 use Rattle.walk.proofs.CountLaws.{pow_small, shift_one}
 
 -- ---- a word whose bits are those of the digit d in the columns from s on: z of them, and none from column l on
@@ -270,37 +270,28 @@ module _ (m l k b n : ℕ) (a : List ℕ) (F : Fitting m l k b n a) where
   pub reads_two : (i q : ℕ) → q ≡ planes l → i < m → b * k / 64 + 1 < planes l → i * (2 * q) + b * k / 64 + q + 1 < length a
   reads_two i q eq h more = omega (arith, row_fits m l i q (length a) eq F.legal.long h)
 
-  module _ (i q r : ℕ) (lanes : Lanes) (x : Cells) (eq : q ≡ planes l) (fits : Words a) (hi : i < m) (L : InLanes (k - 1) n lanes)
-      (made : (j n : ℕ) → InLanes j n lanes → r ≡ filled (suc j) n (bit_xor x.unit x.sign) + filled (suc j) n x.sign) where
-    counted : r ≡ filled k n (bit_xor x.unit x.sign) + filled k n x.sign
-    counted =
-        let e : suc (k - 1) ≡ k = omega (arith, F.some) in
-        made (k - 1) n L ∙ ap (λ (j : ℕ). filled j n (bit_xor x.unit x.sign) + filled j n x.sign) e
-
-    pub row_one : x ≡ of_one a q (i * (2 * q) + b * k / 64) (b * k % 64) → ((j : ℕ) → j < 64 → b * k + j < 64 * planes l → b * k % 64 + j < 64) → r ≡ row i
-    unfolding of_one
-    row_one ex near =
-        counted ∙ ap (λ (y : Cells). filled k n (bit_xor y.unit y.sign) + filled k n y.sign) ex
-        ∙ row_filled m l k i q b n _ _ a F.legal hi eq F.word (window_one l i q (b * k) a eq fits (omega (arith, starts, planes_room l)) (λ j h c. near j h (omega arith)))
-
-    pub row_two : x ≡ of_two a q (i * (2 * q) + b * k / 64) (b * k % 64) → 0 < b * k % 64 → b * k / 64 + 1 < planes l → r ≡ row i
-    unfolding of_two
-    row_two ex pos more =
-        counted ∙ ap (λ (y : Cells). filled k n (bit_xor y.unit y.sign) + filled k n y.sign) ex
-        ∙ row_filled m l k i q b n _ _ a F.legal hi eq F.word (window_two l i q (b * k) a eq fits pos (omega arith))
+  -- the steps of a row, as the code counts them
+  pub lanes_counted : (i r : ℕ) (lanes : Lanes) (x : Cells) → InLanes (k - 1) n lanes → Counted l k (cell l a) b n i x
+      → ((j n : ℕ) → InLanes j n lanes → r ≡ filled (suc j) n (bit_xor x.unit x.sign) + filled (suc j) n x.sign) → r ≡ row i
+  lanes_counted i r lanes x L C made =
+      let e : suc (k - 1) ≡ k = omega (arith, F.some) in
+      made (k - 1) n L ∙ ap (λ (j : ℕ). filled j n (bit_xor x.unit x.sign) + filled j n x.sign) e ∙ C.steps
 
   module _ (i q : ℕ) (x : Cells) (eq : q ≡ planes l) (fits : Words a) (hi : i < m) (small : x.sign < 2 ^ 64) where
-    pub good_one : x ≡ of_one a q (i * (2 * q) + b * k / 64) (b * k % 64) → ((j : ℕ) → j < 64 → b * k + j < 64 * planes l → b * k % 64 + j < 64) → Good x
-    unfolding of_one
-    good_one ex near =
-        subst (λ (y : Cells). Good y) (sym ex)
-        (window_good m l i q (b * k) _ _ a F.legal hi eq (window_one l i q (b * k) a eq fits (omega (arith, starts, planes_room l)) (λ j h c. near j h (omega arith))) (subst (λ (y : Cells). y.sign < 2 ^ 64) ex small))
+    in_window : (u g : ℕ) → x ≡ record { unit = u; sign = g } → Window q l a i (b * k) u g → Counted l k (cell l a) b n i x
+    in_window u g ex W =
+        subst (λ (y : Cells). Counted l k (cell l a) b n i y) (sym ex) (record {
+          good = window_good m l i q (b * k) u g a F.legal hi eq W (subst (λ (y : Cells). y.sign < 2 ^ 64) ex small);
+          steps = row_filled m l k i q b n u g a F.legal hi eq F.word W;
+        })
 
-    pub good_two : x ≡ of_two a q (i * (2 * q) + b * k / 64) (b * k % 64) → 0 < b * k % 64 → b * k / 64 + 1 < planes l → Good x
+    pub counted_one : x ≡ of_one a q (i * (2 * q) + b * k / 64) (b * k % 64) → ((j : ℕ) → j < 64 → b * k + j < 64 * planes l → b * k % 64 + j < 64) → Counted l k (cell l a) b n i x
+    unfolding of_one
+    counted_one ex near = in_window _ _ ex (window_one l i q (b * k) a eq fits (omega (arith, starts, planes_room l)) (λ j h c. near j h (omega arith)))
+
+    pub counted_two : x ≡ of_two a q (i * (2 * q) + b * k / 64) (b * k % 64) → 0 < b * k % 64 → b * k / 64 + 1 < planes l → Counted l k (cell l a) b n i x
     unfolding of_two
-    good_two ex pos more =
-        subst (λ (y : Cells). Good y) (sym ex)
-        (window_good m l i q (b * k) _ _ a F.legal hi eq (window_two l i q (b * k) a eq fits pos (omega arith)) (subst (λ (y : Cells). y.sign < 2 ^ 64) ex small))
+    counted_two ex pos more = in_window _ _ ex (window_two l i q (b * k) a eq fits pos (omega arith))
 
 -- ---- fewer blocks
 

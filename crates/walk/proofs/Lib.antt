@@ -5,3 +5,4 @@ pub mod RanLaws
 pub mod CountLaws
 pub mod PieceLaws
 pub mod LaneLaws
+pub mod FactorLaws

@@ -69,11 +69,10 @@ module _ (k m n : ℕ) (B : Matrix) (step : ℕ → Step) (x : ℕ) (t p p' : Li
   pub step_made : 0 < x → Ran k m n B (step x ∷ []) t p t p' → Ran k m n B (unless0 step x) t p t p'
   step_made h R = rw (unless_some step x h) R
 
--- the row step of digit d, by what is made with the digit e
+-- the row step of digit d
 module _ (k m n q : ℕ) (row : q ≡ planes n) {t p p' : List ℕ} (L : Legal (2 ^ k) n t) (fits : Words t) (K : Legal m n p) (fits' : Words p) where
-  pub row_step_made : (i d e x : ℕ) → d ≡ e → i < m → 0 < x → x < 2 ^ k → Made (of2 (combine e) q p (i * (2 * q)) t (x * (2 * q))) (i * (2 * q)) q q p p'
-      → (B : Matrix) → Ran k m n B (unless0 (row_step i d) x) t p t p'
-  row_step_made i d e x same h pos hx M B = rw same (step_made k m n B (row_step i e) x t p p' pos (ran_row_step k m n q row t p L fits K fits' B i e x p' h hx M))
+  pub row_step_made : (i d x : ℕ) → i < m → 0 < x → x < 2 ^ k → Made (of2 (combine d) q p (i * (2 * q)) t (x * (2 * q))) (i * (2 * q)) q q p p' → (B : Matrix) → Ran k m n B (unless0 (row_step i d) x) t p t p'
+  row_step_made i d x h pos hx M B = step_made k m n B (row_step i d) x t p p' pos (ran_row_step k m n q row t p L fits K fits' B i d x p' h hx M)
 
 module _ (k m n : ℕ) (step : ℕ → Step) (x : ℕ) (a b : Left) (t p p' : List ℕ) where
   abbrev Carried : Type 0

@@ -1,41 +1,32 @@
 // Counts the steps of a block.
-ghost use Rattle.std.specs.Prelude.{◌≡◌, ◌+◌, ◌-◌, ◌≤◌, ◌<◌, min};
-ghost use Rattle.buffers.specs.Buffer.{planes, cell, Legal};
+ghost use Rattle.std.specs.Prelude.{◌≡◌, ◌+◌, ◌-◌, ◌%◌, ◌≤◌, ◌<◌};
 ghost use Rattle.steps.specs.StepList.{P, N};
 ghost use Rattle.steps.specs.Count.{block_count};
+ghost use Rattle.walk.specs.Factors.{matrix_of};
 
-use buffers::planes::planes;
+use super::factors::Packed;
 use rows::block::{Bits, block};
 
-fn one(x: u64) -> u64
-    ensures { result ≡ min 1 x }
-{
-    if x == 0 {
-        return 0;
+impl Packed<'_> {
+    // P and N of row i in the block of the w columns from column s on. A caller that knows that these lie in one word of each plane says 1, and else 2.
+    // Start and width and no Block: total and place count A's blocks with no B at hand.
+    pub fn bits<const WORDS: usize>(&self, i: usize, s: usize, w: usize) -> Bits
+        requires { (i < self.now.rows) × (0 < w) × (w ≤ 8) × (s + w ≤ self.now.columns) × (WORDS ≡ 1 → s % 64 + w ≤ 64) }
+        ensures { (result.ones ≡ P (matrix_of self.now) s w i) × (result.twos ≡ N (matrix_of self.now) s w i) }
+    {
+        block::<WORDS>(self.words, self.plane, i * (2 * self.plane), s, w)
     }
-    1
-}
 
-// P and N of row i in the block of the w columns from column s on.
-pub fn bits(a: &[u64], m: usize, l: usize, q: usize, i: usize, s: usize, w: usize) -> Bits
-    requires { (m ≤ 1024) × (l ≤ 1024) × Legal m l a.now × (q ≡ planes l) × (i < m) × (0 < w) × (w ≤ 8) × (s + w ≤ l) }
-    ensures { (result.ones ≡ P (cell l a.now) s w i) × (result.twos ≡ N (cell l a.now) s w i) }
-{
-    block(a, q, i * (2 * q), s, w)
-}
-
-// The steps of the block: its table rows, and one for each P and N that is not 0.
-pub fn block_count(a: &[u64], m: usize, l: usize, s: usize, w: usize) -> u64
-    requires { (m ≤ 1024) × (l ≤ 1024) × Legal m l a.now × (0 < w) × (w ≤ 8) × (s + w ≤ l) }
-    ensures { result ≡ block_count m (cell l a.now) s w }
-{
-    let q = planes(l);
-    let mut n: u64 = (1 << (w as u64)) - 1;
-    let mut i = 0;
-    while i < m {
-        let b = bits(a, m, l, q, i, s, w);
-        n += one(b.ones) + one(b.twos);
-        i += 1;
+    // The steps of the block: its table rows, and one for each P and N that is not 0.
+    pub fn block_count(&self, s: usize, w: usize) -> u64
+        requires { (0 < w) × (w ≤ 8) × (s + w ≤ self.now.columns) }
+        ensures { result ≡ block_count self.now.rows (matrix_of self.now) s w }
+    {
+        let mut n: u64 = (1 << (w as u64)) - 1;
+        for i in 0..self.rows {
+            let bits = self.bits::<2>(i, s, w);
+            n += bits.ones.min(1) + bits.twos.min(1);
+        }
+        n
     }
-    n
 }

@@ -3,6 +3,7 @@
 
 pub mod blocks;
 pub mod count;
+pub mod factors;
 mod many;
 mod piece;
 pub mod place;
@@ -10,15 +11,6 @@ mod row_step;
 mod rows_part;
 mod table_part;
 pub mod whole;
-
-// The sizes of a product of an m by l and an l by n matrix, and the width of its blocks.
-#[derive(Clone, Copy)]
-pub struct Shape {
-    pub m: usize,
-    pub l: usize,
-    pub n: usize,
-    pub width: usize,
-}
 
 // What is left of a turn: steps to skip, since they were made before, and steps that may be made.
 #[derive(Clone, Copy)]

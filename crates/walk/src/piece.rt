@@ -1,30 +1,28 @@
 // The steps of one row of A in one block.
 ghost use Rattle.std.specs.Prelude.{◌≡◌, ◌^◌, ◌<◌, length};
 ghost use Rattle.cells.specs.Digit.{Matrix};
-ghost use Rattle.buffers.specs.Buffer.{planes, Legal};
 ghost use Rattle.steps.specs.Step.{row_step};
 ghost use Rattle.steps.specs.StepList.{unless0};
 ghost use Rattle.steps.specs.Turn.{due};
 ghost use Rattle.walk.specs.Spent.{Spent};
-ghost use Rattle.walk.specs.Ran.{Ran};
-ghost use Rattle.walk.specs.Shape.{Within};
+ghost use Rattle.walk.specs.Factors.{Sized, RanFor};
 
+use super::factors::Factors;
 use super::row_step::row_step;
-use crate::{Left, Shape};
+use crate::Left;
 
-// The row step of digit d, 1 or 2, and table row x: none where x is 0, and none where it is to be skipped or the budget is spent.
-pub fn piece(
+// The row step of digit D, 1 or 2, and table row x: none where x is 0, and none where it is to be skipped or the budget is spent.
+pub fn piece<const D: u64>(
     product: &mut [u64],
     table: &[u64],
-    shape: Shape,
-    q: usize,
+    factors: &Factors,
     i: usize,
-    d: u64,
     x: u64,
     left: Left,
 ) -> Left
-    requires { Within shape × (q ≡ planes shape.n) × Legal shape.m shape.n product.old × Legal (2 ^ shape.width) shape.n table.now × (i < shape.m) × (x < 2 ^ shape.width) × (0 < d) × (d < 3) }
-    ensures { Spent left (length (unless0 (row_step i d) x)) result × ((B : Matrix) → Ran shape.width shape.m shape.n B (due left.skip left.budget (unless0 (row_step i d) x)) table.now product.old table.now product.new) }
+    requires { Sized factors.now table.now product.old × (i < factors.now.a.rows) × (x < 2 ^ factors.now.width) × (0 < D) × (D < 3) }
+    ensures spent { Spent left (length (unless0 (row_step i D) x)) result }
+    ensures ran { (B : Matrix) → RanFor factors.now B (due left.skip left.budget (unless0 (row_step i D) x)) table.now product.old table.now product.new }
 {
     if x == 0 {
         return left;
@@ -32,13 +30,13 @@ pub fn piece(
     if left.skip != 0 {
         return Left {
             skip: left.skip - 1,
-            budget: left.budget,
+            ..left
         };
     }
     if left.budget == 0 {
         return left;
     }
-    row_step(product, table, shape, q, i, d, x);
+    row_step::<D>(product, table, factors, i, x);
     Left {
         skip: 0,
         budget: left.budget - 1,

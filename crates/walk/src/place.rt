@@ -1,10 +1,10 @@
 // One walk over A: the exact total, and the last block that begins at or before a number of steps.
-ghost use Rattle.std.specs.Prelude.{◌≡◌, ◌+◌, ◌≤◌, ◌<◌};
-ghost use Rattle.buffers.specs.Buffer.{cell, Legal};
+ghost use Rattle.std.specs.Prelude.{◌≡◌, ◌≤◌, ◌<◌};
 ghost use Rattle.steps.specs.StepList.{blocks, block_width};
+ghost use Rattle.walk.specs.Factors.{matrix_of};
 ghost use Rattle.walk.specs.Place.{StandsAt};
 
-use super::count::block_count;
+use super::factors::Packed;
 
 #[derive(Clone, Copy)]
 pub struct Standing {
@@ -13,12 +13,12 @@ pub struct Standing {
     pub before: u64,
 }
 
-// How many blocks there are.
+// How many blocks there are. Of l and k alone, since no matrix need be at hand: a type of the two would be made anew for every call.
 pub fn blocks(l: usize, k: usize) -> usize
     requires { (l ≤ 1024) × (0 < k) × (k ≤ 8) }
     ensures { result ≡ blocks l k }
 {
-    (l + (k - 1)) / k
+    l.div_ceil(k)
 }
 
 // The width of block b.
@@ -26,33 +26,29 @@ pub fn width(l: usize, k: usize, b: usize) -> usize
     requires { (l ≤ 1024) × (0 < k) × (k ≤ 8) × (b < blocks l k) }
     ensures { result ≡ block_width l k b }
 {
-    let left = l - b * k;
-    if left < k {
-        return left;
-    }
-    k
+    k.min(l - b * k)
 }
 
-pub fn place(a: &[u64], m: usize, l: usize, k: usize, done: u64) -> Standing
-    requires { (m ≤ 1024) × (l ≤ 1024) × Legal m l a.now × (0 < k) × (k ≤ 8) }
-    ensures { StandsAt m l k (cell l a.now) done result }
-{
-    let n = blocks(l, k);
-    let mut total: u64 = 0;
-    let mut block: u64 = 0;
-    let mut before: u64 = 0;
-    let mut b = 0;
-    while b < n {
-        total += block_count(a, m, l, b * k, width(l, k, b));
-        b += 1;
-        if total <= done {
-            block = b as u64;
-            before = total;
+impl Packed<'_> {
+    // Where `done` steps stand, if the blocks are k wide.
+    pub fn place(&self, k: usize, done: u64) -> Standing
+        requires { (0 < k) × (k ≤ 8) }
+        ensures { StandsAt self.now.rows self.now.columns k (matrix_of self.now) done result }
+    {
+        let mut total: u64 = 0;
+        let mut block: u64 = 0;
+        let mut before: u64 = 0;
+        for b in 0..blocks(self.columns, k) {
+            total += self.block_count(b * k, width(self.columns, k, b));
+            if total <= done {
+                block = b as u64 + 1;
+                before = total;
+            }
         }
-    }
-    Standing {
-        total: total,
-        block: block,
-        before: before,
+        Standing {
+            total,
+            block,
+            before,
+        }
     }
 }

@@ -1,57 +1,38 @@
 // The steps of all rows of A in one block.
-ghost use Rattle.std.specs.Prelude.{◌≡◌, ◌+◌, ◌^◌, ◌≤◌, ◌<◌, length};
+ghost use Rattle.std.specs.Prelude.{◌≡◌, ◌<◌, length};
 ghost use Rattle.cells.specs.Digit.{Matrix};
-ghost use Rattle.buffers.specs.Buffer.{planes, cell, Legal};
-ghost use Rattle.steps.specs.StepList.{each, row_steps};
+ghost use Rattle.steps.specs.StepList.{each};
 ghost use Rattle.steps.specs.Turn.{due};
 ghost use Rattle.walk.specs.Spent.{Spent};
-ghost use Rattle.walk.specs.Ran.{Ran};
-ghost use Rattle.walk.specs.Shape.{Within};
+ghost use Rattle.walk.specs.Factors.{Sized, RanFor, row_list};
 
-use super::count::bits;
+use super::factors::Block;
 use super::piece::piece;
-use crate::{Left, Shape};
-use buffers::planes::planes;
+use crate::Left;
 
-// Row i: P is added, and then N subtracted.
-fn row_part(
-    product: &mut [u64],
-    table: &[u64],
-    a: &[u64],
-    shape: Shape,
-    q: usize,
-    s: usize,
-    w: usize,
-    i: usize,
-    left: Left,
-) -> Left
-    requires { Within shape × (q ≡ planes shape.n) × Legal shape.m shape.n product.old × Legal (2 ^ shape.width) shape.n table.now × Legal shape.m shape.l a.now × (0 < w) × (w ≤ shape.width) × (s + w ≤ shape.l) × (i < shape.m) }
-    ensures { Spent left (length (row_steps (cell shape.l a.now) s w i)) result × ((B : Matrix) → Ran shape.width shape.m shape.n B (due left.skip left.budget (row_steps (cell shape.l a.now) s w i)) table.now product.old table.now product.new) }
-{
-    let bits = bits(a, shape.m, shape.l, planes(shape.l), i, s, w);
-    let mid = piece(product, table, shape, q, i, 1, bits.ones, left);
-    piece(product, table, shape, q, i, 2, bits.twos, mid)
-}
-
-pub fn rows_part(
-    product: &mut [u64],
-    table: &[u64],
-    a: &[u64],
-    shape: Shape,
-    s: usize,
-    w: usize,
-    left: Left,
-) -> Left
-    requires { Within shape × Legal shape.m shape.n product.old × Legal (2 ^ shape.width) shape.n table.now × Legal shape.m shape.l a.now × (0 < w) × (w ≤ shape.width) × (s + w ≤ shape.l) }
-    ensures { Spent left (length (each 0 shape.m (row_steps (cell shape.l a.now) s w))) result × ((B : Matrix) → Ran shape.width shape.m shape.n B (due left.skip left.budget (each 0 shape.m (row_steps (cell shape.l a.now) s w))) table.now product.old table.now product.new) }
-{
-    let q = planes(shape.n);
-    let m = shape.m;
-    let mut rest = left;
-    let mut i = 0;
-    while i < m {
-        rest = row_part(product, table, a, shape, q, s, w, i, rest);
-        i += 1;
+impl Block<'_> {
+    // Row i: P is added, and then N subtracted.
+    fn row_part(&self, product: &mut [u64], table: &[u64], i: usize, left: Left) -> Left
+        requires { Sized self.now.factors table.now product.old × (i < self.now.factors.a.rows) }
+        ensures spent { Spent left (length (row_list self.now i)) result }
+        ensures ran { (B : Matrix) → RanFor self.now.factors B (due left.skip left.budget (row_list self.now i)) table.now product.old table.now product.new }
+    {
+        let bits = self.factors.a.bits::<2>(i, self.start, self.width);
+        let mid = piece::<1>(product, table, &self.factors, i, bits.ones, left);
+        piece::<2>(product, table, &self.factors, i, bits.twos, mid)
     }
-    rest
+
+    pub fn rows_part(&self, product: &mut [u64], table: &[u64], left: Left) -> Left
+        requires { Sized self.now.factors table.now product.old }
+        ensures spent { Spent left (length (each 0 self.now.factors.a.rows (row_list self.now))) result }
+        ensures ran { (B : Matrix) → RanFor self.now.factors B (due left.skip left.budget (each 0 self.now.factors.a.rows (row_list self.now))) table.now product.old table.now product.new }
+    {
+        // A copy, as in a whole product.
+        let block = *self;
+        let mut rest = left;
+        for i in 0..block.factors.a.rows {
+            rest = block.row_part(product, table, i, rest);
+        }
+        rest
+    }
 }

@@ -1,73 +1,66 @@
 // Every step of the list: the walk of a whole product, which has nothing to skip and pays for no budget.
-ghost use Rattle.std.specs.Prelude.{◌≡◌, ◌+◌, ◌*◌, ◌^◌, ◌≤◌, ◌<◌};
+ghost use Rattle.std.specs.Prelude.{◌≡◌, ◌+◌, ◌%◌, ◌≤◌, ◌<◌};
 ghost use Rattle.cells.specs.Digit.{Matrix};
-ghost use Rattle.buffers.specs.Buffer.{planes, cell, Legal};
-ghost use Rattle.steps.specs.StepList.{each, row_steps, blocks, block_at, steps};
-ghost use Rattle.walk.specs.Ran.{Ran};
-ghost use Rattle.walk.specs.Shape.{Within};
+ghost use Rattle.steps.specs.StepList.{each, steps};
+ghost use Rattle.walk.specs.Factors.{Sized, RanFor, matrix_of, row_list, block_list};
 
-use super::count::bits;
-use super::place::{blocks, width};
+use super::factors::{Block, Factors};
+use super::place::blocks;
 use super::row_step::row_step;
-use super::table_part::table_part;
-use crate::Shape;
-use buffers::planes::planes;
 
-// Row i: P is added, and then N subtracted.
-fn row_all(
-    product: &mut [u64],
-    table: &[u64],
-    a: &[u64],
-    shape: Shape,
-    q: usize,
-    p: usize,
-    s: usize,
-    w: usize,
-    i: usize,
-)
-    requires { Within shape × (q ≡ planes shape.n) × (p ≡ planes shape.l) × Legal shape.m shape.n product.old × Legal (2 ^ shape.width) shape.n table.now × Legal shape.m shape.l a.now × (0 < w) × (w ≤ shape.width) × (s + w ≤ shape.l) × (i < shape.m) }
-    ensures { (B : Matrix) → Ran shape.width shape.m shape.n B (row_steps (cell shape.l a.now) s w i) table.now product.old table.now product.new }
-{
-    let bits = bits(a, shape.m, shape.l, p, i, s, w);
-    row_step(product, table, shape, q, i, 1, bits.ones);
-    row_step(product, table, shape, q, i, 2, bits.twos);
-}
+impl Block<'_> {
+    // Row i: P is added, and then N subtracted.
+    fn row_all<const WORDS: usize>(&self, product: &mut [u64], table: &[u64], i: usize)
+        requires { Sized self.now.factors table.now product.old × (i < self.now.factors.a.rows) × (WORDS ≡ 1 → self.now.start % 64 + self.now.width ≤ 64) }
+        ensures { (B : Matrix) → RanFor self.now.factors B (row_list self.now i) table.now product.old table.now product.new }
+    {
+        let bits = self.factors.a.bits::<WORDS>(i, self.start, self.width);
+        row_step::<1>(product, table, &self.factors, i, bits.ones);
+        row_step::<2>(product, table, &self.factors, i, bits.twos);
+    }
 
-fn rows_all(product: &mut [u64], table: &[u64], a: &[u64], shape: Shape, s: usize, w: usize)
-    requires { Within shape × Legal shape.m shape.n product.old × Legal (2 ^ shape.width) shape.n table.now × Legal shape.m shape.l a.now × (0 < w) × (w ≤ shape.width) × (s + w ≤ shape.l) }
-    ensures { (B : Matrix) → Ran shape.width shape.m shape.n B (each 0 shape.m (row_steps (cell shape.l a.now) s w)) table.now product.old table.now product.new }
-{
-    let q = planes(shape.n);
-    let p = planes(shape.l);
-    let m = shape.m;
-    let mut i = 0;
-    while i < m {
-        row_all(product, table, a, shape, q, p, s, w, i);
-        i += 1;
+    // All rows, where the block's columns lie in so many words of a plane: 1, or 2 where that is not known.
+    fn rows_each<const WORDS: usize>(&self, product: &mut [u64], table: &[u64])
+        requires { Sized self.now.factors table.now product.old × (WORDS ≡ 1 → self.now.start % 64 + self.now.width ≤ 64) }
+        ensures { (B : Matrix) → RanFor self.now.factors B (each 0 self.now.factors.a.rows (row_list self.now)) table.now product.old table.now product.new }
+    {
+        // A copy, which no step can write: so its sizes are read once and not in every row.
+        let block = *self;
+        for i in 0..block.factors.a.rows {
+            block.row_all::<WORDS>(product, table, i);
+        }
+    }
+
+    // It is told once a block, and not in every row, whether its columns go on into the next word.
+    fn rows_all(&self, product: &mut [u64], table: &[u64])
+        requires { Sized self.now.factors table.now product.old }
+        ensures { (B : Matrix) → RanFor self.now.factors B (each 0 self.now.factors.a.rows (row_list self.now)) table.now product.old table.now product.new }
+    {
+        if self.start % 64 + self.width <= 64 {
+            self.rows_each::<1>(product, table);
+        } else {
+            self.rows_each::<2>(product, table);
+        }
+    }
+
+    // The block's table rows, and then the rows of A.
+    fn block_all(&self, table: &mut [u64], product: &mut [u64])
+        requires { Sized self.now.factors table.old product.old }
+        ensures { RanFor self.now.factors (matrix_of self.now.factors.b) (block_list self.now) table.old product.old table.new product.new }
+    {
+        let rows: usize = 1 << self.width;
+        self.table_part(table, 1, rows);
+        self.rows_all(product, table);
     }
 }
 
-// Block c: its table rows, and then the rows of A.
-fn block_all(table: &mut [u64], product: &mut [u64], a: &[u64], b: &[u64], shape: Shape, c: usize)
-    requires { Within shape × Legal (2 ^ shape.width) shape.n table.old × Legal shape.m shape.n product.old × Legal shape.m shape.l a.now × Legal shape.l shape.n b.now × (c < blocks shape.l shape.width) }
-    ensures { Ran shape.width shape.m shape.n (cell shape.n b.now) (block_at shape.m shape.l shape.width (cell shape.l a.now) c) table.old product.old table.new product.new }
-{
-    let k = shape.width;
-    let s = c * k;
-    let w = width(shape.l, k, c);
-    let rows: u64 = 1 << (w as u64);
-    table_part(table, b, shape, s, w, 1, rows as usize);
-    rows_all(product, table, a, shape, s, w);
-}
-
-pub fn blocks_all(table: &mut [u64], product: &mut [u64], a: &[u64], b: &[u64], shape: Shape)
-    requires { Within shape × Legal (2 ^ shape.width) shape.n table.old × Legal shape.m shape.n product.old × Legal shape.m shape.l a.now × Legal shape.l shape.n b.now }
-    ensures { Ran shape.width shape.m shape.n (cell shape.n b.now) (steps shape.m shape.l shape.width (cell shape.l a.now)) table.old product.old table.new product.new }
-{
-    let end = blocks(shape.l, shape.width);
-    let mut d = 0;
-    while d < end {
-        block_all(table, product, a, b, shape, d);
-        d += 1;
+impl Factors<'_> {
+    pub fn blocks_all(&self, table: &mut [u64], product: &mut [u64])
+        requires { Sized self.now table.old product.old }
+        ensures { RanFor self.now (matrix_of self.now.b) (steps self.now.a.rows self.now.a.columns self.now.width (matrix_of self.now.a)) table.old product.old table.new product.new }
+    {
+        for c in 0..blocks(self.a.columns, self.width) {
+            self.block(c).block_all(table, product);
+        }
     }
 }

@@ -1,7 +1,5 @@
-use mathlib.Core.Path.{refl}
-use Rattle.steps.specs.StepList.{blocks}
+use Rattle.walk.proofs.CountLaws.{rounded_up}
 use Rattle.walk.proofs.place.blocks.Goals as goal
 
 pub returns : goal.returns
-unfolding blocks
-returns c = refl
+returns c = rounded_up c.args.l c.args.k _ c.requires.1 c.div_ceil.ensures

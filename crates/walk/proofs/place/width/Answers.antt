@@ -3,16 +3,12 @@ use Rattle.steps.specs.StepList.{block_width}
 use native.Mathlib.Omega.{arith}
 use Rattle.walk.proofs.place.width.Goals as goal
 
-pub overflow_mul-left : goal.overflow_mul-left
-overflow_mul-left c = omega (arith, blocks_within _ _ _ c.requires.1 c.requires.3)
+pub overflow_mul-b : goal.overflow_mul-b
+overflow_mul-b c = omega (arith, blocks_within _ _ _ c.requires.1 c.requires.3)
 
-pub overflow_sub-left : goal.overflow_sub-left
-overflow_sub-left c = omega (arith, blocks_within _ _ _ c.requires.1 c.requires.3)
-
-pub returns-then-left-k : goal.returns-then-left-k
-unfolding block_width
-returns-then-left-k c = omega arith
+pub overflow_sub-l : goal.overflow_sub-l
+overflow_sub-l c = omega (arith, blocks_within _ _ _ c.requires.1 c.requires.3)
 
 pub returns : goal.returns
 unfolding block_width
-returns c = omega arith
+returns c = c.min.ensures

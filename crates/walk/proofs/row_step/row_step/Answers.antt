@@ -10,40 +10,35 @@ use Rattle.walk.proofs.PieceLaws.{step_none, row_step_made}
 use Rattle.walk.proofs.row_step.row_step.Goals as goal
 
 pub returns-then-x-eq0 : goal.returns-then-x-eq0
-returns-then-x-eq0 c =
-    λ M. step_none c.args.shape.width c.args.shape.m c.args.shape.n M (row_step c.args.i c.args.d) c.args.x _ _ _ c.if-x-eq0.true refl c.requires.3 (λ n. omega (arith, c.shared_slice_known-1.given n)) c.requires.2 (λ n. omega (arith, c.slice_known-1.given n))
+returns-then-x-eq0 g c =
+    let f = c.args.factors.now in
+    λ M. step_none f.width f.a.rows f.b.columns M (row_step c.args.i g.row.D) c.args.x _ _ _ c.if-x-eq0.true refl c.requires.0.table (λ n. omega (arith, c.type_inv.table n)) c.requires.0.product (λ n. omega (arith, c.type_inv.product n))
 
 pub overflow_mul-wide : goal.overflow_mul-wide
-overflow_mul-wide c = omega (arith, planes_le _ c.requires.0.n)
+overflow_mul-wide g c =
+    let f = c.args.factors.now in
+    omega (arith, f.b.whole_plane, planes_le _ f.b.few_columns)
 
 pub overflow_mul-at : goal.overflow_mul-at
-overflow_mul-at c = omega (arith, row_fits _ _ c.args.i _ _ c.requires.1 c.requires.2.long c.requires.4, words_le _ _ c.requires.0.m c.requires.0.n)
+overflow_mul-at g c =
+    let f = c.args.factors.now in
+    omega (arith, row_fits _ _ c.args.i _ _ f.b.whole_plane c.requires.0.product.long c.requires.1, words_le _ _ f.a.few_rows f.b.few_columns)
 
 pub overflow_mul-from : goal.overflow_mul-from
-overflow_mul-from c =
-    omega (
-      arith,
-      mul-le-mul {n₁ = c.args.x} {m₁ = 2 * c.args.q} {n₂ = 256} {m₂ = 32} (omega (arith, c.requires.5, pow_small c.args.shape.width c.requires.0.width)) (omega (arith, c.requires.1, planes_le _ c.requires.0.n)),
+overflow_mul-from g c =
+    let f = c.args.factors.now in
+    omega (arith, mul-le-mul {n₁ = c.args.x} {m₁ = 2 * f.b.plane} {n₂ = 256} {m₂ = 32} (omega (arith, c.requires.2, pow_small f.width f.narrow)) (omega (arith, f.b.whole_plane, planes_le _ f.b.few_columns)))
+
+pub accumulate-requires : goal.accumulate-requires
+accumulate-requires g c =
+    let f = c.args.factors.now in (
+      row_readable _ _ c.args.i _ _ f.b.whole_plane c.requires.0.product (λ n. omega (arith, c.slice_known-1.given n)) c.requires.1,
+      row_readable _ _ c.args.x _ _ f.b.whole_plane c.requires.0.table (λ n. omega (arith, c.type_inv.table n)) c.requires.2,
+      omega arith,
     )
 
-pub add-requires : goal.add-requires
-add-requires c = (
-  row_readable _ _ c.args.i _ _ c.requires.1 c.requires.2 (λ n. omega (arith, c.slice_known-1.given n)) c.requires.4,
-  row_readable _ _ c.args.x _ _ c.requires.1 c.requires.3 (λ n. omega (arith, c.shared_slice_known-1.given n)) c.requires.5,
-)
-
-pub returns-then-d-eq1 : goal.returns-then-d-eq1
-returns-then-d-eq1 c =
-    row_step_made c.args.shape.width c.args.shape.m c.args.shape.n c.args.q c.requires.1 c.requires.3 (λ n. omega (arith, c.shared_slice_known-1.given n)) c.requires.2 (λ n. omega (arith, c.slice_known-1.given n))
-    c.args.i c.args.d 1 c.args.x c.if-d-eq1.true c.requires.4 (omega arith) c.requires.5 c.add.ensures
-
-pub subtract-requires : goal.subtract-requires
-subtract-requires c = (
-  row_readable _ _ c.args.i _ _ c.requires.1 c.requires.2 (λ n. omega (arith, c.slice_known-1.given n)) c.requires.4,
-  row_readable _ _ c.args.x _ _ c.requires.1 c.requires.3 (λ n. omega (arith, c.shared_slice_known-1.given n)) c.requires.5,
-)
-
 pub returns : goal.returns
-returns c =
-    row_step_made c.args.shape.width c.args.shape.m c.args.shape.n c.args.q c.requires.1 c.requires.3 (λ n. omega (arith, c.shared_slice_known-1.given n)) c.requires.2 (λ n. omega (arith, c.slice_known-1.given n))
-    c.args.i c.args.d 2 c.args.x (omega arith) c.requires.4 (omega arith) c.requires.5 c.subtract.ensures
+returns g c =
+    let f = c.args.factors.now in
+    row_step_made f.width f.a.rows f.b.columns f.b.plane f.b.whole_plane c.requires.0.table (λ n. omega (arith, c.type_inv.table n)) c.requires.0.product (λ n. omega (arith, c.slice_known-1.given n))
+    c.args.i g.row.D c.args.x c.requires.1 (omega arith) c.requires.2 c.accumulate.ensures
