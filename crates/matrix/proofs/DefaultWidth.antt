@@ -3,6 +3,7 @@
 use mathlib.Core.Path.{◌≡◌}
 use mathlib.Core.List.{List}
 use Prim.Native.Nat.{ℕ, ◌^◌, ◌≤◌, min}
+use Rattle.std.specs.Prelude.{Ok}
 use lib.ListN.{length}
 use Rattle.buffers.specs.Buffer.{words, cell, encode}
 use Rattle.requests.specs.declared.Size.{Size}
@@ -12,14 +13,13 @@ use Rattle.steps.specs.Width.{default_width}
 use Rattle.steps.specs.Turn.{all_budgets, Given}
 use Rattle.steps.proofs.Width.{default_is}
 use Rattle.matrix.specs.declared.job.Job.{Job}
-use Rattle.matrix.specs.declared.opening.Opened.TheVariants as an-opening
 use Rattle.matrix.specs.Job.{meant, total_of}
 use Rattle.matrix.specs.Opening.{opened, opening_means}
 use Rattle.matrix.specs.Turn.{turn_means}
 use Rattle.matrix.specs.Stands.{job_at, Stands}
 use Rattle.matrix.proofs.Demand3.{Accepted, facts, started, demand_3, demand_3_end, demand_3_goes_on, demand_3_quote}
 
-module _ (x y : Size) (a b t p : List ℕ) (job₀ : Job) (t₀ p₀ : List ℕ) (says : opened (an-opening.Done job₀) t₀ p₀ ≡ opening_means x y 0 a b t p) where
+module _ (x y : Size) (a b t p : List ℕ) (job₀ : Job) (t₀ p₀ : List ℕ) (says : opened (Ok job₀) t₀ p₀ ≡ opening_means x y 0 a b t p) where
   abbrev k : ℕ
   k = default_width x.rows x.columns
 

@@ -4,11 +4,12 @@ use mathlib.Core.Path.{◌≡◌}
 use mathlib.Core.Bool.{Bool, false}
 use mathlib.Core.List.{List, [], ◌∷◌}
 use Prim.Native.Nat.{ℕ, ◌^◌}
+use Rattle.std.specs.Prelude.{Result}
 use lib.ListN.{length}
 use Rattle.buffers.specs.Buffer.{cell, encode}
 use Rattle.requests.specs.declared.Size.{Size}
-use Rattle.requests.specs.declared.Answer.{Answer}
-use Rattle.requests.specs.Answers.{word}
+use Rattle.requests.specs.declared.Reason.{Reason}
+use Rattle.requests.specs.Answers.{Answer, word, held, told}
 use Rattle.requests.specs.Faults.{faults}
 use Rattle.requests.specs.Single.{single_tests}
 use Rattle.requests.specs.Pair.{pair_tests}
@@ -21,9 +22,8 @@ use Rattle.matrix.specs.Negation.{negation_of, negation_means}
 use Rattle.matrix.specs.Scaling.{scaling_of, scaling_tests, scaling_means}
 use Rattle.matrix.specs.Transpose.{transposed_size, transpose_of, transpose_means}
 use Rattle.rows.specs.Tally.{tally_row}
-use Rattle.matrix.specs.Tally.{balanced, tally_means}
+use Rattle.matrix.specs.Tally.{balanced, tally_told, tally_means}
 use Rattle.matrix.specs.declared.job.Job.{Job}
-use Rattle.matrix.specs.declared.opening.Opened.{Opened}
 use Rattle.matrix.specs.declared.turn.Turned.{Turned}
 use Rattle.matrix.specs.Job.{meant, total_of}
 use Rattle.matrix.specs.Quote.{quote_tests, quote_means}
@@ -69,33 +69,33 @@ pub unpack_exact : (s : Size) (a out : List ℕ) (r : Answer) (o : List ℕ) →
 unfolding unpack_means unpack_tests faults
 unpack_exact s a out r o says = exact (unpack_tests s a (length out)) out (unpack_of s.rows s.columns a) (word r) o (faults_positive First s a) says
 
-pub tally_exact : (c : ℕ) (a : List ℕ) (r : Tallied) → (word r.answer, (r.counts, r.balanced)) ≡ tally_means c a
+pub tally_exact : (c : ℕ) (a : List ℕ) (r : Result Tallied Reason) → tally_told r ≡ tally_means c a
     → Exact {S = List ℕ × Bool} (check_tests (record { rows = 1; columns = c }) a) (0 ∷ 0 ∷ 0 ∷ [], false)
-    (tally_row (cell c a 0) c, balanced (cell c a 0) c) (word r.answer) (r.counts, r.balanced)
+    (tally_row (cell c a 0) c, balanced (cell c a 0) c) (word r) (tally_told r).1
 unfolding tally_means check_tests faults
-tally_exact c a r says = exact (check_tests (record { rows = 1; columns = c }) a) _ _ (word r.answer) (r.counts, r.balanced) (faults_positive First (record { rows = 1; columns = c }) a) says
+tally_exact c a r says = exact (check_tests (record { rows = 1; columns = c }) a) _ _ (word r) (tally_told r).1 (faults_positive First (record { rows = 1; columns = c }) a) says
 
 -- ---- jobs
 
-pub quote_exact : (x : Size) (w : ℕ) (r : Answer) (n : ℕ) → (word r, n) ≡ quote_means x w → Exact (quote_tests x w) 0 (quote x.rows x.columns (meant x w)) (word r) n
+pub quote_exact : (x : Size) (w : ℕ) (r : Result ℕ Reason) → told 0 r ≡ quote_means x w → Exact (quote_tests x w) 0 (quote x.rows x.columns (meant x w)) (word r) (held 0 r)
 unfolding quote_means quote_tests
-quote_exact x w r n says = exact (quote_tests x w) _ _ (word r) n tt says
+quote_exact x w r says = exact (quote_tests x w) _ _ (word r) (held 0 r) tt says
 
-pub width_exact : (x : Size) (w : ℕ) (r : Answer) (n : ℕ) → (word r, n) ≡ width_means x w → Exact (quote_tests x w) 0 (meant x w) (word r) n
+pub width_exact : (x : Size) (w : ℕ) (r : Result ℕ Reason) → told 0 r ≡ width_means x w → Exact (quote_tests x w) 0 (meant x w) (word r) (held 0 r)
 unfolding width_means quote_tests
-width_exact x w r n says = exact (quote_tests x w) _ _ (word r) n tt says
+width_exact x w r says = exact (quote_tests x w) _ _ (word r) (held 0 r) tt says
 
-pub total_exact : (x : Size) (w : ℕ) (a : List ℕ) (r : Answer) (n : ℕ) → (word r, n) ≡ total_means x w a → Exact (total_tests x w a) 0 (total_of x (meant x w) a) (word r) n
+pub total_exact : (x : Size) (w : ℕ) (a : List ℕ) (r : Result ℕ Reason) → told 0 r ≡ total_means x w a → Exact (total_tests x w a) 0 (total_of x (meant x w) a) (word r) (held 0 r)
 unfolding total_means total_tests faults
-total_exact x w a r n says = exact (total_tests x w a) _ _ (word r) n (faults_positive First x a) says
+total_exact x w a r says = exact (total_tests x w a) _ _ (word r) (held 0 r) (faults_positive First x a) says
 
-pub opening_exact : (x y : Size) (w : ℕ) (a b t p : List ℕ) (r : Opened) (t₁ p₁ : List ℕ) → opened r t₁ p₁ ≡ opening_means x y w a b t p
+pub opening_exact : (x y : Size) (w : ℕ) (a b t p : List ℕ) (r : Result Job Reason) (t₁ p₁ : List ℕ) → opened r t₁ p₁ ≡ opening_means x y w a b t p
     → Exact {S = Job × (List ℕ × List ℕ)} (opening_tests x y w a b (length t) (length p)) (no_job, (t, p)) (opened_of x y w) (opened r t₁ p₁).0 (opened r t₁ p₁).1
 unfolding opening_means opening_tests faults
 opening_exact x y w a b t p r t₁ p₁ says =
     exact (opening_tests x y w a b (length t) (length p)) _ _ (opened r t₁ p₁).0 (opened r t₁ p₁).1 (pair_positive First Second x y a b) says
 
-pub turn_exact : (job : Job) (a b t p : List ℕ) (budget : ℕ) (r : Turned) (t₁ p₁ : List ℕ) → turned r t₁ p₁ ≡ turn_means job a b t p budget
+pub turn_exact : (job : Job) (a b t p : List ℕ) (budget : ℕ) (r : Result Turned Reason) (t₁ p₁ : List ℕ) → turned r t₁ p₁ ≡ turn_means job a b t p budget
     → Exact {S = Job × (ℕ × (Bool × (List ℕ × List ℕ)))} (turn_tests job a b t p) (no_job, (0, (false, (t, p)))) (turned_of job a b t p budget) (turned r t₁ p₁).0 (turned r t₁ p₁).1
 unfolding turn_means turn_tests found_tests faults
 turn_exact job a b t p budget r t₁ p₁ says = exact (turn_tests job a b t p) _ _ (turned r t₁ p₁).0 (turned r t₁ p₁).1 (turn_positive job a b t p) says

@@ -4,6 +4,7 @@ use mathlib.Core.Bool.{Bool}
 use mathlib.Core.List.{List}
 use Prim.Native.Nat.{ℕ, ◌+◌, ◌*◌, ◌%◌, ◌^◌}
 use native.Mathlib.Omega.{arith}
+use Rattle.std.specs.Prelude.{Ok}
 use lib.ListN.{length, get_or}
 use Rattle.cells.specs.Digit.{combine, neg3, mul3}
 use Rattle.buffers.specs.Buffer.{cell}
@@ -11,8 +12,7 @@ use Rattle.buffers.specs.Shows.{Shows}
 use Rattle.buffers.proofs.SizeLaws.{cell_lt}
 use Rattle.buffers.proofs.BufferLaws.{encode_shows}
 use Rattle.requests.specs.declared.Size.{Size}
-use Rattle.requests.specs.declared.Answer.{Answer}
-use Rattle.requests.specs.Answers.{word}
+use Rattle.requests.specs.Answers.{Answer, word}
 use Rattle.matrix.specs.Unpacked.{byte_at, Unpacks}
 use Rattle.matrix.specs.Pack.{pack_of, pack_means}
 use Rattle.matrix.specs.Unpack.{unpack_of, unpack_means}
@@ -27,8 +27,6 @@ use Rattle.steps.specs.Turn.{turn}
 use Rattle.steps.proofs.Running.{run_digits, opening_digits}
 use Rattle.walk.specs.Ran.{found}
 use Rattle.matrix.specs.declared.job.Job.{Job}
-use Rattle.matrix.specs.declared.opening.Opened.TheVariants as an-opening
-use Rattle.matrix.specs.declared.turn.Turned.TheVariants as a_turn
 use Rattle.matrix.specs.Job.{meant}
 use Rattle.matrix.specs.Opening.{opened, opening_means}
 use Rattle.matrix.specs.Turn.{turned, left_of, turned_of, turn_means}
@@ -81,10 +79,10 @@ module _ (s : Size) (a out : List ℕ) (r : Answer) (o : List ℕ) where
 -- ---- jobs
 
 module _ (x y : Size) (w : ℕ) (a b t p : List ℕ) where
-  pub opening_right : (job : Job) (t₁ p₁ : List ℕ) → opened (an-opening.Done job) t₁ p₁ ≡ opening_means x y w a b t p
+  pub opening_right : (job : Job) (t₁ p₁ : List ℕ) → opened (Ok job) t₁ p₁ ≡ opening_means x y w a b t p
       → Shows (2 ^ meant x w) y.columns (λ i j. 0) t₁ × Shows x.rows y.columns (λ i j. 0) p₁
   opening_right job t₁ p₁ says =
-      let e = (opening_exact x y w a b t p (an-opening.Done job) t₁ p₁ says).right refl in (
+      let e = (opening_exact x y w a b t p (Ok job) t₁ p₁ says).right refl in (
         rw (ap (λ (o : Job × (List ℕ × List ℕ)). o.1.0) e) (encode_shows (2 ^ meant x w) y.columns (λ i j. 0) (λ i j _ _. omega arith)),
         rw (ap (λ (o : Job × (List ℕ × List ℕ)). o.1.1) e) (encode_shows x.rows y.columns (λ i j. 0) (λ i j _ _. omega arith)),
       )
@@ -102,11 +100,11 @@ module _ (x y : Size) (w : ℕ) (a b t p : List ℕ) where
 
 -- the next steps of the list, on the contents as found
 pub turn_right : (job : Job) (a b t p : List ℕ) (budget : ℕ) (job₁ : Job) (n : ℕ) (ended : Bool) (t₁ p₁ : List ℕ)
-    → turned (a_turn.Done job₁ n ended) t₁ p₁ ≡ turn_means job a b t p budget
+    → turned (Ok (record { job = job₁; made = n; finished = ended })) t₁ p₁ ≡ turn_means job a b t p budget
     → Shows (2 ^ job.width) job.n (left_of job a b t p budget).state.table t₁ × Shows job.m job.n (left_of job a b t p budget).state.product p₁
 unfolding turned_of turn found
 turn_right job a b t p budget job₁ n ended t₁ p₁ says =
-    let e = (turn_exact job a b t p budget (a_turn.Done job₁ n ended) t₁ p₁ says).right refl in
+    let e = (turn_exact job a b t p budget (Ok (record { job = job₁; made = n; finished = ended })) t₁ p₁ says).right refl in
     let digits = run_digits (cell job.n b) _ (found job.n t p) (record { table = λ i j. cell_lt job.n t i j; product = λ i j. cell_lt job.n p i j }) in (
       rw (ap (λ (o : Job × (ℕ × (Bool × (List ℕ × List ℕ)))). o.1.1.1.0) e) (encode_shows (2 ^ job.width) job.n _ (λ i j _ _. digits.table i j)),
       rw (ap (λ (o : Job × (ℕ × (Bool × (List ℕ × List ℕ)))). o.1.1.1.1) e) (encode_shows job.m job.n _ (λ i j _ _. digits.product i j)),

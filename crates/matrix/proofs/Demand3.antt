@@ -7,6 +7,7 @@ use mathlib.Core.List.{List, []}
 use Prim.Native.Nat.{ℕ, zero, suc, ◌+◌, ◌^◌, ◌≤◌, min}
 use native.Mathlib.Omega.{arith}
 use lib.Dec.{eqb}
+use Rattle.std.specs.Prelude.{Ok}
 use lib.ListN.{length}
 use borrow.Author.Tests.{le-ltb, eq-eqb, ne_eqb}
 use Rattle.cells.specs.Digit.{Matrix}
@@ -14,8 +15,7 @@ use Rattle.buffers.specs.Buffer.{planes, words, cell, Legal, tab, joined, plane,
 use Rattle.buffers.proofs.SizeLaws.{cell_lt}
 use Rattle.buffers.proofs.BufferLaws.{tests_legal, cell_encode, encode_legal, encode_within}
 use Rattle.requests.specs.declared.Size.{Size}
-use Rattle.requests.specs.declared.Answer.{Answer}
-use Rattle.requests.specs.Answers.{word, first}
+use Rattle.requests.specs.Answers.{Answer, word, first}
 use Rattle.requests.specs.Faults.{faults}
 use Rattle.requests.proofs.SizeLaws.{not_over, not_unfit}
 use Rattle.requests.proofs.AnswerLaws.{none_first, finished, done_makes}
@@ -32,8 +32,6 @@ use Rattle.steps.proofs.Same.{SameState}
 use Rattle.steps.proofs.Turns.{made_done, after_all, turn_same, turns_from_start}
 use Rattle.walk.specs.Ran.{found}
 use Rattle.matrix.specs.declared.job.Job.{Job}
-use Rattle.matrix.specs.declared.opening.Opened.TheVariants as an-opening
-use Rattle.matrix.specs.declared.turn.Turned.TheVariants as a_turn
 use Rattle.matrix.specs.Job.{meant, table_size, product_size, total_of}
 use Rattle.matrix.specs.Misfit.{misfit}
 use Rattle.matrix.specs.Opening.{opened, opening_tests, new_job, opened_of, opening_means}
@@ -50,7 +48,7 @@ Held = Job × (List ℕ × List ℕ)
 pub record Accepted (a b : List ℕ) (budget : ℕ) (s s₁ : Held) : Type 0 where
   pub made : ℕ
   pub ended : Bool
-  pub says : turned (a_turn.Done s₁.0 made ended) s₁.1.0 s₁.1.1 ≡ turn_means s.0 a b s.1.0 s.1.1 budget
+  pub says : turned (Ok (record { job = s₁.0; made = made; finished = ended })) s₁.1.0 s₁.1.1 ≡ turn_means s.0 a b s.1.0 s.1.1 budget
 
 module _ (x y : Size) (w : ℕ) (a b : List ℕ) (hm : x.rows ≤ 1024) (hl : x.columns ≤ 1024) (hn : y.columns ≤ 1024) (hw : w ≤ 8) (LA : Legal x.rows x.columns a) (LB : Legal x.columns y.columns b) where
   abbrev m : ℕ
@@ -227,7 +225,7 @@ module _ (x y : Size) (w : ℕ) (a b : List ℕ) (hm : x.rows ≤ 1024) (hl : x.
 
 -- ---- the demand, from an opening on
 
-module _ (x y : Size) (w : ℕ) (a b t p : List ℕ) (job₀ : Job) (t₀ p₀ : List ℕ) (says : opened (an-opening.Done job₀) t₀ p₀ ≡ opening_means x y w a b t p) where
+module _ (x y : Size) (w : ℕ) (a b t p : List ℕ) (job₀ : Job) (t₀ p₀ : List ℕ) (says : opened (Ok job₀) t₀ p₀ ≡ opening_means x y w a b t p) where
   Left : Type 0
   Left = ℕ × (Job × (List ℕ × List ℕ))
 
@@ -302,7 +300,7 @@ pub record Ended (x y : Size) (a b p : List ℕ) : Type 0 where
   pub table : List ℕ
   pub product : List ℕ
   pub held : Held
-  pub says : opened (an-opening.Done held.0) held.1.0 held.1.1 ≡ opening_means x y width a b table product
+  pub says : opened (Ok held.0) held.1.0 held.1.1 ≡ opening_means x y width a b table product
   pub budgets : List ℕ
   pub last : Job
   pub last_table : List ℕ

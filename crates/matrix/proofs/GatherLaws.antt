@@ -3,6 +3,11 @@ use mathlib.Core.Path.{◌≡◌, refl, sym, ap, ap₂, ◌∙◌}
 use Prim.Native.Nat.{ℕ, suc, ◌+◌, ◌-◌, ◌*◌, ◌^◌, ◌≤◌, ◌<◌}
 use native.Mathlib.Decide.{dec_lt}
 use native.Mathlib.Omega.{arith}
+use mathlib.Core.List.{List}
+use lib.ListN.{length, get_or, drop, get_or-eq_default}
+use Rattle.std.proofs.lemmas.List.{length-take}
+use Rattle.std.specs.List.{between}
+use Rattle.std.proofs.lemmas.List.Edits.{length-between, get_or-between}
 use lib.Pow.{pow_mono}
 use borrow.Author.Tests.{lt-ltb, le-ltb}
 use Rattle.cells.specs.Bit.{bit, word_of}
@@ -47,12 +52,6 @@ push_fits f n t w small pos h ew =
     let m : n - t ≤ 63 = omega arith in
     omega (arith, ew, word_of_lt (λ k. f (t + k)) (n - t) (λ k. small (t + k)), pow_mono m)
 
-pub push_all : (f : ℕ → ℕ) (n t w : ℕ) → t ≡ 0 → w ≡ word_of (λ k. f (t + k)) (n - t) → w ≡ word_of f n
-push_all f n t w z ew =
-    let e : n - 0 ≡ n = omega arith in
-    let step : (k : ℕ) → 0 + k ≡ k = λ k. omega arith in
-    (rw z at ew) ∙ ap₂ (λ (g : ℕ → ℕ) (m : ℕ). word_of g m) (λ j k. ap f (step k) j) e
-
 -- the words of unit bits f and sign bits g
 pub gathered_holds : (f g : ℕ → ℕ) (n u s : ℕ) → n ≤ 64 → ((t : ℕ) → f t < 2) → ((t : ℕ) → g t < 2) → ((t : ℕ) → t < n → g t ≤ f t)
     → u ≡ word_of f n → s ≡ word_of g n → WordPair (up_to n (λ t. f t + g t)) u s
@@ -78,6 +77,29 @@ packed_holds d n u s h small eu es =
     let W = gathered_holds (λ t. unit_of (d t)) (λ t. sign_of (d t)) n u s h (λ t. unit_lt (d t)) (λ t. sign_lt (d t)) (λ t l. omega (arith, small t)) eu es in
     record {
       holds = holds_cong (up_cong n (λ t. unit_of (d t) + sign_of (d t)) d (λ t l. omega (arith, small t))) W.holds;
+      unit_fits = W.unit_fits;
+      sign_fits = W.sign_fits;
+    }
+
+-- digits that all stay below n do so from place a to below place e of the list
+pub between_below : (ws : List ℕ) (a e n : ℕ) → ((t : ℕ) → get_or ws t 0 < n) → (t : ℕ) → get_or (between a e ws) t 0 < n
+between_below ws a e n small t = go (dec_lt t (e - a))
+  where
+    go : Dec (t < e - a) → get_or (between a e ws) t 0 < n
+    go (yes l) = rw (get_or-between ws a e t 0 (omega arith)) (small (a + t))
+    go (no l) =
+        let beyond : length (between a e ws) ≤ t = omega (arith, length-take (e - a) (drop a ws)) in
+        rw (get_or-eq_default (between a e ws) 0 {n = t} beyond) (omega (arith, small 0))
+
+-- the words of the digits from place a to below place e of a list
+pub between_holds : (ws : List ℕ) (a e n u s : ℕ) → e ≡ a + n → e ≤ length ws → n ≤ 64 → ((t : ℕ) → get_or ws t 0 < 3)
+    → u ≡ word_of (λ t. unit_of (get_or (between a e ws) t 0)) (length (between a e ws)) → s ≡ word_of (λ t. sign_of (get_or (between a e ws) t 0)) (length (between a e ws))
+    → WordPair (up_to n (λ t. get_or ws (a + t) 0)) u s
+between_holds ws a e n u s ee room h small eu es =
+    let long : length (between a e ws) ≡ n = omega (arith, length-between ws a e room) in
+    let W = packed_holds (λ t. get_or (between a e ws) t 0) n u s h (between_below ws a e 3 small) (rw long at eu) (rw long at es) in
+    record {
+      holds = holds_cong (up_cong n (λ t. get_or (between a e ws) t 0) (λ t. get_or ws (a + t) 0) (λ t l. get_or-between ws a e t 0 (omega arith))) W.holds;
       unit_fits = W.unit_fits;
       sign_fits = W.sign_fits;
     }

@@ -7,6 +7,7 @@ use mathlib.Core.Bool.{Bool, true, false, true≢false}
 use mathlib.Core.List.{List, [], ◌∷◌}
 use Prim.Native.Nat.{ℕ, ◌+◌, ◌*◌, ◌^◌}
 use native.Mathlib.Omega.{arith}
+use Rattle.std.specs.Prelude.{Result}
 use lib.ListN.{get_or}
 use Rattle.cells.specs.Any.{any, least}
 use Rattle.cells.specs.Bit.{bit, word_of}
@@ -15,7 +16,8 @@ use Rattle.cells.specs.Digit.{combine, neg3, mul3, unit_of, sign_of}
 use Rattle.buffers.specs.Buffer.{planes, wide, words, bit_at, unit, sign, cell, tab, joined, plane, encode}
 use Rattle.buffers.specs.Fault.{stray, padded, stray_at, padded_at}
 use Rattle.requests.specs.declared.Size.{Size}
-use Rattle.requests.specs.Answers.{placed, word, first, left, answered}
+use Rattle.requests.specs.declared.Reason.{Reason}
+use Rattle.requests.specs.Answers.{Answer, placed, word, held, first, left, answered}
 use Rattle.requests.specs.Sizes.{over, unfit}
 use Rattle.requests.specs.Faults.{faults}
 use Rattle.requests.specs.Single.{single_tests}
@@ -31,7 +33,7 @@ use Rattle.matrix.specs.Scaling.{scaling_of, scaling_tests, scaling_means}
 use Rattle.matrix.specs.Transpose.{transpose_of, transpose_means}
 use Rattle.rows.specs.Tally.{columns_with, tally_row}
 use Rattle.matrix.specs.declared.tally.Tallied.{Tallied}
-use Rattle.matrix.specs.Tally.{balanced, tally_means}
+use Rattle.matrix.specs.Tally.{balanced, tally_means, no_tally, tally_told}
 
 abbrev one : Size
 one = record { rows = 1; columns = 1 }
@@ -99,7 +101,7 @@ two_zero e = let z : ◌≡◌ {A = ℕ} 1 0 = ap (λ (l : List ℕ). get_or l 0
 tallies_differ : ◌≡◌ {A = List ℕ × Bool} (0 ∷ 1 ∷ 0 ∷ [], false) (1 ∷ 0 ∷ 0 ∷ [], false) → ⊥
 tallies_differ e = let z : ◌≡◌ {A = ℕ} 0 1 = ap (λ (v : List ℕ × Bool). get_or v.0 0 0) e in omega arith
 
-pub combination_shown_out : ShownOut {X = Size × Size × ℕ × List ℕ × List ℕ} {I = List ℕ} {S = List ℕ} word (λ x b. combination_means x.0 x.1 x.2 x.3 b x.4)
+pub combination_shown_out : ShownOut {X = Size × Size × ℕ × List ℕ × List ℕ} {I = List ℕ} {R = Answer} {S = List ℕ} word (λ x b. combination_means x.0 x.1 x.2 x.3 b x.4)
 combination_shown_out = shown_out word _ (one, one, 1, one1, zero1) one1 two1 two1 zero1 sums.added.0 sums.added.1 two_zero
 
 -- of what meets the statement of a combination, as a function of the digit and the two matrices alone
@@ -116,31 +118,31 @@ module _ (f : ℕ → List ℕ → List ℕ → ℕ × List ℕ) (meets : (d : �
   not_two_as_one alike =
       two_zero (sym (ap (λ (v : ℕ × List ℕ). v.1) (meets 1 one1 one1 ∙ sums.added.0)) ∙ ap (λ (v : ℕ × List ℕ). v.1) (sym (alike one1 one1) ∙ meets 2 one1 one1 ∙ sums.subtracted.2))
 
-pub negation_shown_out : ShownOut {X = Size × List ℕ} {I = List ℕ} {S = List ℕ} word (λ x a. negation_means x.0 a x.1)
+pub negation_shown_out : ShownOut {X = Size × List ℕ} {I = List ℕ} {R = Answer} {S = List ℕ} word (λ x a. negation_means x.0 a x.1)
 negation_shown_out = shown_out word _ (one, zero1) one1 two1 two1 one1 sums.negated.0 sums.negated.1 two_one
 
-pub scaling_shown_out : ShownOut {X = Size × ℕ × List ℕ} {I = List ℕ} {S = List ℕ} word (λ x a. scaling_means x.0 x.1 a x.2)
+pub scaling_shown_out : ShownOut {X = Size × ℕ × List ℕ} {I = List ℕ} {R = Answer} {S = List ℕ} word (λ x a. scaling_means x.0 x.1 a x.2)
 scaling_shown_out = shown_out word _ (one, 2, zero1) one1 two1 two1 one1 sums.scaled.0 sums.scaled.1 two_one
 
-pub transpose_shown_out : ShownOut {X = Size × List ℕ} {I = List ℕ} {S = List ℕ} word (λ x a. transpose_means x.0 a x.1)
+pub transpose_shown_out : ShownOut {X = Size × List ℕ} {I = List ℕ} {R = Answer} {S = List ℕ} word (λ x a. transpose_means x.0 a x.1)
 transpose_shown_out = shown_out word _ (one, zero1) two1 one1 two1 one1 sums.transposed.0 sums.transposed.1 two_one
 
-pub pack_shown_out : ShownOut {X = Size × List ℕ} {I = List ℕ} {S = List ℕ} word (λ x a. pack_means x.0 a x.1)
+pub pack_shown_out : ShownOut {X = Size × List ℕ} {I = List ℕ} {R = Answer} {S = List ℕ} word (λ x a. pack_means x.0 a x.1)
 pack_shown_out = shown_out word _ (one, zero1) (2 ∷ []) (1 ∷ []) two1 one1 sums.packed.0 sums.packed.1 two_one
 
-pub unpack_shown_out : ShownOut {X = Size × List ℕ} {I = List ℕ} {S = List ℕ} word (λ x a. unpack_means x.0 a x.1)
+pub unpack_shown_out : ShownOut {X = Size × List ℕ} {I = List ℕ} {R = Answer} {S = List ℕ} word (λ x a. unpack_means x.0 a x.1)
 unpack_shown_out = shown_out word _ (one, 0 ∷ []) two1 one1 (2 ∷ []) (1 ∷ []) sums.unpacked.0 sums.unpacked.1 byte_two_one
 
-pub tally_shown_out : ShownOut {X = ℕ} {I = List ℕ} {S = List ℕ × Bool} word tally_means
-tally_shown_out = shown_out word _ 1 one1 zero1 (0 ∷ 1 ∷ 0 ∷ [], false) (1 ∷ 0 ∷ 0 ∷ [], false) sums.tallied.0 sums.tallied.1 tallies_differ
+pub tally_shown_out : ShownOut {X = ℕ} {I = List ℕ} {R = ℕ} {S = List ℕ × Bool} (λ n. n) tally_means
+tally_shown_out = shown_out (λ (n : ℕ). n) _ 1 one1 zero1 (0 ∷ 1 ∷ 0 ∷ [], false) (1 ∷ 0 ∷ 0 ∷ [], false) sums.tallied.0 sums.tallied.1 tallies_differ
 
 -- no tally calls a row balanced wherever its ones and twos are equally many, as tallies did before Q-3
-pub not_two_levels : (f : ℕ → List ℕ → Tallied) → ((c : ℕ) (a : List ℕ) → (word (f c a).answer, ((f c a).counts, (f c a).balanced)) ≡ tally_means c a)
-    → ((c : ℕ) (a : List ℕ) → word (f c a).answer ≡ 0 → get_or (f c a).counts 1 0 ≡ get_or (f c a).counts 2 0 → (f c a).balanced ≡ true) → ⊥
+pub not_two_levels : (f : ℕ → List ℕ → Result Tallied Reason) → ((c : ℕ) (a : List ℕ) → tally_told (f c a) ≡ tally_means c a)
+    → ((c : ℕ) (a : List ℕ) → word (f c a) ≡ 0 → get_or (held no_tally (f c a)).counts 1 0 ≡ get_or (held no_tally (f c a)).counts 2 0 → (held no_tally (f c a)).balanced ≡ true) → ⊥
 not_two_levels f meets old =
     let said = meets 2 highs2 ∙ sums.tallied.3 in
     let even = ap (λ (v : ℕ × (List ℕ × Bool)). get_or v.1.0 1 0) said ∙ sym (ap (λ (v : ℕ × (List ℕ × Bool)). get_or v.1.0 2 0) said) in
     true≢false (sym (old 2 highs2 (ap (λ (v : ℕ × (List ℕ × Bool)). v.0) said) even) ∙ ap (λ (v : ℕ × (List ℕ × Bool)). v.1.1) said)
 
-pub check_shown_out : AnswerShownOut {X = Size} {I = List ℕ} word check_means
+pub check_shown_out : AnswerShownOut {X = Size} {I = List ℕ} {R = Answer} word check_means
 check_shown_out = answer_shown_out word check_means one one1 stray1 (5 + 2 ^ 8) sums.checked.0 sums.checked.1 (λ e. omega arith)

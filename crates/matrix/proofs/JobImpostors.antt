@@ -8,6 +8,7 @@ use mathlib.Core.List.{List, [], ◌∷◌}
 use Prim.Native.Nat.{ℕ}
 use native.Mathlib.Omega.{arith}
 use lib.Count.{count_trailing_zeros}
+use Rattle.std.specs.Prelude.{Result}
 use lib.ListN.{get_or}
 use Rattle.cells.specs.Any.{any}
 use Rattle.cells.specs.Bit.{bit, word_of}
@@ -16,8 +17,8 @@ use Rattle.cells.specs.Digit.{combine, unit_of, sign_of}
 use Rattle.buffers.specs.Buffer.{planes, wide, words, bit_at, unit, sign, cell, tab, joined, plane, encode}
 use Rattle.buffers.specs.Fault.{stray, padded}
 use Rattle.requests.specs.declared.Size.{Size}
-use Rattle.requests.specs.declared.Answer.{Answer}
-use Rattle.requests.specs.Answers.{word, first, left, answered}
+use Rattle.requests.specs.declared.Reason.{Reason}
+use Rattle.requests.specs.Answers.{Answer, word, held, told, first, left, answered}
 use Rattle.requests.specs.Sizes.{over, unfit}
 use Rattle.requests.specs.Faults.{faults}
 use Rattle.requests.proofs.ShownOut.{ShownOut, shown_out}
@@ -106,7 +107,7 @@ one_zero e = let z : ◌≡◌ {A = ℕ} 1 0 = ap (λ (l : List ℕ). get_or l 0
 -- ---- turns
 
 -- a turn that answers as its statement says, with the table and the product that it leaves
-module _ (f : Handed → Turned × List ℕ × List ℕ) (meets : (h : Handed) → turned (f h).0 (f h).1 (f h).2 ≡ means h) where
+module _ (f : Handed → Result Turned Reason × List ℕ × List ℕ) (meets : (h : Handed) → turned (f h).0 (f h).1 (f h).2 ≡ means h) where
   abbrev table_left : Handed → List ℕ
   table_left h = (f h).1
 
@@ -139,34 +140,35 @@ module _ (f : Handed → Turned × List ℕ × List ℕ) (meets : (h : Handed) �
 
 -- ---- totals
 
-module _ (f : Size → ℕ → List ℕ → Answer × ℕ) (meets : (x : Size) (w : ℕ) (a : List ℕ) → (word (f x w a).0, (f x w a).1) ≡ total_means x w a) where
-  steps_is : (a : List ℕ) (n : ℕ) → total_means one 1 a ≡ (0, n) → (f one 1 a).1 ≡ n
+module _ (f : Size → ℕ → List ℕ → Result ℕ Reason) (meets : (x : Size) (w : ℕ) (a : List ℕ) → told 0 (f x w a) ≡ total_means x w a) where
+  steps_is : (a : List ℕ) (n : ℕ) → total_means one 1 a ≡ (0, n) → held 0 (f one 1 a) ≡ n
   steps_is a n says = ap (λ (v : ℕ × ℕ). v.1) (meets one 1 a ∙ says)
 
   -- a total does not come from the sizes alone, and so is not the quote either
-  pub not_invented : ((x : Size) (w : ℕ) (a a' : List ℕ) → (f x w a).1 ≡ (f x w a').1) → ⊥
+  pub not_invented : ((x : Size) (w : ℕ) (a a' : List ℕ) → held 0 (f x w a) ≡ held 0 (f x w a')) → ⊥
   not_invented invents =
       let z : ◌≡◌ {A = ℕ} 1 2 = sym (steps_is zero1 1 sums.totals.0) ∙ invents one 1 zero1 one1 ∙ steps_is one1 2 sums.totals.1 in
       omega arith
 
-  pub not_the_quote : ((x : Size) (w : ℕ) (a : List ℕ) → (f x w a).1 ≡ (quote_means x w).1) → ⊥
+  pub not_the_quote : ((x : Size) (w : ℕ) (a : List ℕ) → held 0 (f x w a) ≡ (quote_means x w).1) → ⊥
   not_the_quote invents =
       let z : ◌≡◌ {A = ℕ} 1 2 = sym (steps_is zero1 1 sums.totals.0) ∙ invents one 1 zero1 ∙ ap (λ (v : ℕ × ℕ). v.1) sums.quoted.0 in
       omega arith
 
 -- ---- refusing everything, and a fixed answer
 
-pub quote_shown_out : ShownOut {X = ℕ} {I = Size} {S = ℕ} word (λ w x. quote_means x w)
-quote_shown_out = shown_out word _ 1 one none 2 0 sums.quoted.0 sums.quoted.1 (λ e. omega arith)
+-- a quote, a width and a total answer by a word and a number, an opening and a turn by a word and what goes with it, as `told`, `opened` and
+-- `turned` read them off a Result
+pub quote_shown_out : ShownOut {X = ℕ} {I = Size} {R = ℕ} {S = ℕ} (λ n. n) (λ w x. quote_means x w)
+quote_shown_out = shown_out (λ (n : ℕ). n) _ 1 one none 2 0 sums.quoted.0 sums.quoted.1 (λ e. omega arith)
 
 -- a default that is the same for all sizes too
-pub width_shown_out : ShownOut {X = ℕ} {I = Size} {S = ℕ} word (λ w x. width_means x w)
-width_shown_out = shown_out word _ 0 one square 1 4 sums.chosen.0 sums.chosen.1 (λ e. omega arith)
+pub width_shown_out : ShownOut {X = ℕ} {I = Size} {R = ℕ} {S = ℕ} (λ n. n) (λ w x. width_means x w)
+width_shown_out = shown_out (λ (n : ℕ). n) _ 0 one square 1 4 sums.chosen.0 sums.chosen.1 (λ e. omega arith)
 
-pub total_shown_out : ShownOut {X = Size × ℕ} {I = List ℕ} {S = ℕ} word (λ x a. total_means x.0 x.1 a)
-total_shown_out = shown_out word _ (one, 1) zero1 one1 1 2 sums.totals.0 sums.totals.1 (λ e. omega arith)
+pub total_shown_out : ShownOut {X = Size × ℕ} {I = List ℕ} {R = ℕ} {S = ℕ} (λ n. n) (λ x a. total_means x.0 x.1 a)
+total_shown_out = shown_out (λ (n : ℕ). n) _ (one, 1) zero1 one1 1 2 sums.totals.0 sums.totals.1 (λ e. omega arith)
 
--- an opening and a turn answer by a word and what goes with it, as `opened` and `turned` read them off their enums
 pub opening_shown_out : ShownOut {X = Size × Size × List ℕ × List ℕ × List ℕ × List ℕ} {I = ℕ} {S = Job × (List ℕ × List ℕ)} (λ (n : ℕ). n)
     (λ x w. opening_means x.0 x.1 w x.2 x.3 x.4 x.5)
 opening_shown_out =
@@ -178,7 +180,7 @@ turn_shown_out =
     shown_out (λ (n : ℕ). n) _ (job 0, one1, new_table, zero1, 2) one1 zero1 (job 2, (2, (true, (made_table, one1)))) (job 1, (1, (true, (made_table, zero1)))) sums.both_steps sums.zero_cell
     (λ e. one_zero (ap (λ (o : Left). o.1.1.1.1) e))
 
-pub product_shown_out : ShownOut {X = Size × Size × ℕ × List ℕ × List ℕ × List ℕ} {I = List ℕ} {S = List ℕ × List ℕ} word
+pub product_shown_out : ShownOut {X = Size × Size × ℕ × List ℕ × List ℕ × List ℕ} {I = List ℕ} {R = Answer} {S = List ℕ × List ℕ} word
     (λ x a. product_means x.0 x.1 x.2 a x.3 x.4 x.5)
 product_shown_out =
     shown_out word _ (one, one, 1, one1, new_table, zero1) one1 zero1 (made_table, one1) (made_table, zero1) sums.multiplied.0 sums.multiplied.1

@@ -5,8 +5,7 @@ use mathlib.Core.List.{List, []}
 use Prim.Native.Nat.{ℕ, zero, suc, ◌+◌, ◌-◌, ◌*◌, ◌%◌, ◌^◌, ◌≤◌, ◌<◌, min}
 use native.Mathlib.Omega.{arith}
 use lib.Dec.{T, ltb, eqb}
-use native.Mathlib.Decide.{dec_lt}
-use lib.ListN.{length, get_or, get_or-eq_default}
+use lib.ListN.{length, get_or}
 use borrow.Author.Tests.{ltb-false, lt-ltb, le-ltb, eqb-true, eqb-false, not-false}
 use Rattle.cells.proofs.AnyLaws.{or_left, or_right}
 use Rattle.cells.specs.Digit.{Matrix}
@@ -21,7 +20,6 @@ use Rattle.requests.specs.Exact.{None}
 use Rattle.requests.specs.declared.Buffer.TheVariants.{First, Second, Third, Fourth}
 use Rattle.requests.proofs.PairLaws.{faults_positive, pair_positive}
 use Rattle.requests.proofs.AnswerLaws.{positive, positive_append, finished, none_first, first_none, append_given, append_none, here, later}
-use Rattle.rows.specs.Row.{Written}
 use Rattle.steps.specs.Step.{Step, run, opening}
 use Rattle.steps.specs.StepList.{each, blocks, block_at}
 use Rattle.steps.specs.Count.{quote, total}
@@ -211,13 +209,6 @@ unfolding quote_means
 quote_done x w r small narrow e = count_done x w (quote x.rows x.columns (meant x w)) r small narrow e
 
 -- ---- zero in a buffer
-
-pub zero_all : (n : ℕ) (old new : List ℕ) → n ≡ length old → Written (λ k. 0) 0 n old new → (k : ℕ) → get_or new k 0 ≡ 0
-zero_all n old new e W k = go (dec_lt k n)
-  where
-    go : Dec (k < n) → get_or new k 0 ≡ 0
-    go (yes l) = let z : 0 + k ≡ k = omega arith in subst (λ (i : ℕ). get_or new i 0 ≡ 0) z (W.written k l)
-    go (no l) = get_or-eq_default new 0 {n = k} (omega (arith, W.long))
 
 pub zero_legal : (r c : ℕ) (ws : List ℕ) → length ws ≡ words r c → ((k : ℕ) → get_or ws k 0 ≡ 0) → Legal r c ws
 zero_legal r c ws long z = subst (Legal r c) (sym (zeros_encode r c ws long z)) (encode_legal r c (λ i j. 0))

@@ -1,4 +1,6 @@
 -- Laws that belong to no one function, for this crate and those above it.
+pub mod PutLaws
+pub mod ByRowLaws
 pub mod GatherLaws
 pub mod PackLaws
 pub mod UnpackLaws

@@ -3,33 +3,35 @@ use mathlib.Core.Path.{◌≡◌, refl, sym, ap, ◌∙◌}
 use mathlib.Core.Bool.{Bool, true, false, ◌||◌}
 use mathlib.Core.List.{List}
 use Prim.Native.Nat.{ℕ, zero, suc, ◌+◌, ◌-◌, ◌*◌, ◌/◌, ◌%◌, ◌≤◌, ◌<◌, min, max}
-use native.Mathlib.Nat.{mul-le-mul, mul-le-mul_right, suc-mul, mul-zero, div-lt_iff_lt-mul, mod-lt, div-add-mod'}
+use native.Mathlib.Nat.{mul-le-mul_right, suc-mul, mul-zero, div-lt_iff_lt-mul, mod-lt, div-add-mod'}
 use native.Mathlib.Numerals.{add-one}
 use native.Mathlib.Decide.{dec_lt}
 use native.Mathlib.Omega.{arith}
 use lib.Dec.{T, ltb, eqb}
 use lib.ListN.{length, get_or, get_or-eq_default}
 use borrow.Author.Tests.{ltb-false, lt-ltb, le-ltb, eqb-true, eq-eqb, not-false}
+use Rattle.std.proofs.Common.{Option, None, Some, MatchOption, IsSome}
 use Rattle.cells.specs.Any.{any, First}
-use Rattle.cells.proofs.AnyLaws.{any_none, any_next, any_at, or_left, or_right}
-use Rattle.cells.proofs.LeastLaws.{any_beyond, least_of, least_first}
+use Rattle.cells.proofs.AnyLaws.{any_none, any_at, or_left, or_right}
+use Rattle.cells.proofs.LeastLaws.{true_false, least_of, least_first}
 use Rattle.buffers.specs.Buffer.{planes, words, encode}
 use Rattle.buffers.specs.Fault.{FirstBad}
 use Rattle.requests.specs.declared.Size.{Size}
 use Rattle.requests.specs.Answers.{first}
 use Rattle.requests.specs.Sizes.{unfit}
 use Rattle.requests.proofs.SizeLaws.{over_rows, over_columns, not_over, unfit_long, not_unfit}
-use Rattle.requests.specs.Exact.{None}
+use Rattle.requests.specs.Exact as exact
 use Rattle.requests.proofs.WordLaws.{placed_positive}
 use Rattle.requests.proofs.AnswerLaws.{positive, first_none}
+use Rattle.rows.specs.Row.{Made}
+use Rattle.rows.proofs.RowLaws.{made_cong}
 use Rattle.rows.proofs.MatrixLaws.{RowsMade, rows_all}
 use Rattle.matrix.specs.Gathered.{up_to}
 use Rattle.matrix.specs.Unpacked.{byte_at, unlike}
 use Rattle.matrix.specs.Pack.{above_first, above_at, pack_tests}
-use Rattle.matrix.proofs.GatherLaws.{up_in, up_out}
-
-pub cells_le : (r c : ℕ) → r ≤ 1024 → c ≤ 1024 → r * c ≤ 1048576
-cells_le r c hr hc = mul-le-mul {n₂ = 1024} {m₂ = 1024} hr hc
+use Rattle.std.specs.List.{between}
+use Rattle.std.proofs.lemmas.List.Edits.{length-between, get_or-between}
+use Rattle.matrix.proofs.GatherLaws.{up_in, up_out, up_cong}
 
 -- the cells of row i
 pub cells_in : (r c i : ℕ) → i < r → i * c + c ≤ r * c
@@ -75,7 +77,7 @@ pack_positive s cells n = rw (placed_positive 8 _) tt
 pub ready : (s : Size) (cells : List ℕ) (n : ℕ) → first (pack_tests s cells n) ≡ 0 → Ready s cells n
 unfolding pack_tests
 ready s cells n z =
-    let t : None (pack_tests s cells n) = first_none (pack_tests s cells n) (pack_positive s cells n) z in
+    let t : exact.None (pack_tests s cells n) = first_none (pack_tests s cells n) (pack_positive s cells n) z in
     record {
       rows = over_rows s t.0;
       columns = over_columns s t.0;
@@ -88,7 +90,7 @@ ready s cells n z =
     go k h (yes l) = let e : get_or cells k 0 ≤ 2 = ltb-false 2 (get_or cells k 0) (any_at (λ k. ltb 2 (get_or cells k 0)) (length cells) h k l) in omega arith
     go k h (no l) = rw (get_or-eq_default cells 0 {n = k} (omega arith)) (omega arith)
 
-pub ready_none : (s : Size) (cells : List ℕ) (n : ℕ) → Ready s cells n → None (pack_tests s cells n)
+pub ready_none : (s : Size) (cells : List ℕ) (n : ℕ) → Ready s cells n → exact.None (pack_tests s cells n)
 unfolding pack_tests
 ready_none s cells n R = (
   not_over s R.rows R.columns,
@@ -97,6 +99,24 @@ ready_none s cells n R = (
     (any_none (λ k. ltb 2 (get_or cells k 0)) (length cells) (λ k _. le-ltb 2 (get_or cells k 0) (omega (arith, R.small k))), tt),
   ),
 )
+
+-- the row that is made of the c cells from place i c on
+module _ (cells : List ℕ) (c i : ℕ) (room : i * c + c ≤ length cells) where
+  pub row_long : length (between (i * c) (i * c + c) cells) ≡ c
+  row_long = length-between cells (i * c) (i * c + c) room ∙ omega arith
+
+  pub row_packed : (x q : ℕ) (mid new : List ℕ)
+      → Made (λ p. up_to (min 64 (length (between (i * c) (i * c + c) cells) - 64 * p)) (λ t. get_or (between (i * c) (i * c + c) cells) (64 * p + t) 0)) x q q mid new
+      → Made (λ p. up_to (min 64 (c - 64 * p)) (λ t. get_or cells (i * c + 64 * p + t) 0)) x q q mid new
+  row_packed x q mid new M =
+      let row = between (i * c) (i * c + c) cells in
+      made_cong (λ p. up_to (min 64 (c - 64 * p)) (λ t. get_or row (64 * p + t) 0)) (λ p. up_to (min 64 (c - 64 * p)) (λ t. get_or cells (i * c + 64 * p + t) 0)) x q q mid new
+      (λ p t l.
+      up_cong (min 64 (c - 64 * p)) (λ t. get_or row (64 * p + t) 0) (λ t. get_or cells (i * c + 64 * p + t) 0)
+      (λ t l.
+      let a : i * c + (64 * p + t) ≡ i * c + 64 * p + t = omega arith in
+      get_or-between cells (i * c) (i * c + c) (64 * p + t) 0 (omega arith) ∙ ap (λ (n : ℕ). get_or cells n 0) a) t)
+      (rw row_long at M)
 
 -- the rows that are packed are those of the encoding
 pub packed_all : (q r c : ℕ) (cells new : List ℕ) → q ≡ planes c
@@ -115,20 +135,18 @@ module _ (cells : List ℕ) where
   abbrev above : ℕ → Bool
   above k = ltb 2 (get_or cells k 0)
 
-  pub above_begin : any 0 above ≡ false
-  unfolding any
-  above_begin = refl
-
-  pub above_next : (k : ℕ) → any k above ≡ false → get_or cells k 0 < 3 → any (k + 1) above ≡ false
-  above_next k h l = any_next above k h (le-ltb 2 (get_or cells k 0) (omega arith))
+  -- what a search for it says: a place, with none before it, or that there is none
+  abbrev pub Found : Option ℕ → Type 0
+  Found o = MatchOption o ((k : ℕ) → k < length cells → get_or cells k 0 ≤ 2) (λ i. (i < length cells) × (2 < get_or cells i 0) × ((k : ℕ) → k < i → get_or cells k 0 ≤ 2))
 
   module _ (some : any (length cells) above ≡ true) where
-    pub above_beyond : (k : ℕ) → any k above ≡ false → k < length cells
-    above_beyond k h = any_beyond above (length cells) k some h
+    pub above_some : (o : Option ℕ) → Found o → IsSome o
+    above_some None h = absurd (true_false (any (length cells) above) some (any_none above (length cells) (λ k l. le-ltb 2 (get_or cells k 0) (h k l))))
+    above_some (Some i) h = refl
 
-    pub above_stop : (k : ℕ) → any k above ≡ false → 2 < get_or cells k 0 → k ≡ above_first cells
+    pub above_found : (i : ℕ) → Found (Some i) → i ≡ above_first cells
     unfolding above_first
-    above_stop k h l = sym (least_of above (length cells) k some (lt-ltb 2 (get_or cells k 0) l) h)
+    above_found i h = sym (least_of above (length cells) i some (lt-ltb 2 (get_or cells i 0) h.1) (any_none above i (λ k l. le-ltb 2 (get_or cells k 0) (h.2 k l))))
 
     pub above_within : First (length cells) above (above_first cells)
     unfolding above_first

@@ -7,8 +7,7 @@ use Rattle.buffers.specs.Buffer.{cell, Legal, Words, encode}
 use Rattle.buffers.proofs.SizeLaws.{cell_lt}
 use Rattle.buffers.proofs.BufferLaws.{cell_encode, encode_cell, encode_legal, encode_within}
 use Rattle.requests.specs.declared.Size.{Size}
-use Rattle.requests.specs.declared.Answer.{Answer}
-use Rattle.requests.specs.Answers.{word}
+use Rattle.requests.specs.Answers.{Answer, word}
 use Rattle.requests.proofs.AnswerLaws.{none_first}
 use Rattle.matrix.specs.Unpacked.{byte_at}
 use Rattle.matrix.specs.Pack.{pack_of, pack_means}

@@ -1,24 +1,19 @@
 -- The rows of a transpose, made block by block, and the tests of `transpose`. Assumes nothing.
-use mathlib.Core.Path.{◌≡◌, refl, sym, ap, ◌∙◌}
-use mathlib.Core.Bool.{or_comm}
+use mathlib.Core.Path.{◌≡◌, sym, ap, ◌∙◌}
 use mathlib.Core.List.{List}
 use Prim.Native.Nat.{ℕ, ◌+◌, ◌-◌, ◌*◌, ◌%◌, ◌≤◌, ◌<◌, min}
 use native.Mathlib.Nat.{add-mul, mul-le-mul}
 use native.Mathlib.Decide.{dec_lt}
 use native.Mathlib.Omega.{arith}
 use lib.Arith.{digits_mod}
-use lib.Dec.{ltb}
 use lib.ListN.{get_or}
 use Rattle.cells.specs.Bit.{bit, word_of}
 use Rattle.cells.specs.Pair.{WordPair}
 use Rattle.buffers.specs.Buffer.{planes, wide, words, unit, sign, cell, Legal, encode}
 use Rattle.buffers.proofs.SizeLaws.{planes_le, row_fits, bit_at_word, unit_small, sign_small}
 use Rattle.blocks64.specs.Block.{Spaced, transposed_word, Spread}
-use Rattle.requests.specs.declared.Size.{Size}
-use Rattle.requests.specs.Sizes.{over}
 use Rattle.rows.proofs.MatrixLaws.{RowsMade, rows_all, row_ends}
 use Rattle.matrix.specs.Gathered.{up_to}
-use Rattle.matrix.specs.Transpose.{transposed_size}
 use Rattle.matrix.specs.RowBlocks.{column, WordMade, BlockMade}
 use Rattle.matrix.proofs.GatherLaws.{up_in, up_out, gathered_holds}
 
@@ -86,17 +81,6 @@ word_made f g h x q p m y old mid new l e pairs U S = record {
       ∙ U.kept _ (λ t' j d. omega (arith, one_column (2 * q) t (q + s) t' p (omega arith) (omega arith) (omega arith)));
 }
 
-module _ (f : ℕ → ℕ → ℕ → ℕ) (x q m : ℕ) (old : List ℕ) where
-  pub block_none : BlockMade f x q m 0 old old
-  block_none = record { long = refl; made = λ t p l h. absurd (omega arith); before = λ k l. refl }
-
-  pub block_next : (n : ℕ) (mid new : List ℕ) → n < q → BlockMade f x q m n old mid → WordMade (λ t. f t n) x q n m mid new → BlockMade f x q m (n + 1) old new
-  block_next n mid new l B W = record { long = W.long ∙ B.long; made = λ t p i h. go t p i h (dec_lt p n); before = λ k h. W.before k h ∙ B.before k h }
-    where
-      go : (t p : ℕ) → t < m → p < n + 1 → Dec (p < n) → WordPair (f t p) (get_or new (x + t * (2 * q) + p) 0) (get_or new (x + t * (2 * q) + q + p) 0)
-      go t p i h (yes k) = rw (W.units t p (omega arith) (λ d. omega arith), W.signs t p (omega arith) (λ d. omega arith)) (B.made t p i k)
-      go t p i h (no k) = let d : p ≡ n = omega arith in rw d (W.made t i)
-
 -- m rows more
 pub rows_block : (f : ℕ → ℕ → ℕ → ℕ) (i q m n : ℕ) (mid new : List ℕ) → RowsMade f i q n mid → BlockMade (λ t. f (i + t)) (i * (2 * q)) q m q mid new → RowsMade f (i + m) q n new
 rows_block f i q m n mid new R B = record { len = B.long ∙ R.len; made = λ k p l h. go k p l h (dec_lt k i) }
@@ -116,7 +100,3 @@ transposed q r c a new e R =
     rows_all (λ j p. up_to (min 64 (r - 64 * p)) (λ t. cell c a (64 * p + t) j)) (λ i j. cell c a j i) q c r new e
     (λ i p t h m k l. up_in (min 64 (r - 64 * p)) (λ t. cell c a (64 * p + t) i) t (omega arith))
     (λ i p t h m k l. up_out (min 64 (r - 64 * p)) (λ t. cell c a (64 * p + t) i) t (omega arith)) R
-
-pub transposed_over : (s : Size) → over s ≡ over (transposed_size s)
-unfolding over
-transposed_over s = or_comm (ltb 1024 s.rows) (ltb 1024 s.columns)

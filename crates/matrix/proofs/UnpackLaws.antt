@@ -1,10 +1,12 @@
 -- The tests of `unpack`, and the bytes that it writes. Assumes nothing.
-use mathlib.Core.Path.{◌≡◌, refl, sym, ap, ◌∙◌}
+use mathlib.Core.Path.{◌≡◌, sym, ap, ◌∙◌}
 use mathlib.Core.List.{List}
 use Prim.Native.Nat.{ℕ, ◌+◌, ◌-◌, ◌*◌, ◌/◌, ◌^◌, ◌≤◌, ◌<◌, min}
 use native.Mathlib.Decide.{dec_lt}
 use native.Mathlib.Omega.{arith}
-use lib.ListN.{length, get_or, get_or-eq_default}
+use lib.ListN.{length, get_or, set, get_or-eq_default}
+use Rattle.std.proofs.lemmas.List.{get_or-set_same, get_or-set_other}
+use borrow.Rule.Slice.PartMut.{put_mid}
 use lib.Pow.{shr-shr}
 use lib.Seq.{ext_get_or}
 use Rattle.cells.specs.Pair.{digit}
@@ -12,7 +14,7 @@ use Rattle.cells.proofs.AnyLaws.{or_left, or_right}
 use Rattle.cells.specs.Digit.{Matrix}
 use Rattle.buffers.specs.Buffer.{planes, cell, Legal, tab, joined}
 use Rattle.buffers.proofs.BufferLaws.{legal_tests, tests_legal, length_tab, get_d_tab, length_joined, get_d_joined, by_row}
-use Rattle.buffers.proofs.SizeLaws.{planes_room, planes_tight}
+use Rattle.buffers.proofs.SizeLaws.{planes_tight}
 use Rattle.requests.specs.declared.Size.{Size}
 use Rattle.requests.specs.Answers.{first}
 use Rattle.requests.specs.Sizes.{unfit}
@@ -22,12 +24,12 @@ use Rattle.requests.specs.Exact.{None}
 use Rattle.requests.specs.declared.Buffer.TheVariants.{First}
 use Rattle.requests.proofs.PairLaws.{faults_positive}
 use Rattle.requests.proofs.AnswerLaws.{first_none}
-use Rattle.rows.specs.Row.{column, Written}
-use Rattle.rows.proofs.RowLaws.{written_none, written_more}
+use Rattle.rows.specs.Row.{column}
 use Rattle.rows.proofs.TallyLaws.{column_word}
 use Rattle.rows.proofs.MatrixLaws.{column_cell}
 use Rattle.matrix.specs.Unpacked.{bytes, unlike}
 use Rattle.matrix.specs.Unpack.{unpack_tests}
+use Rattle.matrix.proofs.PutLaws.{put_long, put_before, put_within}
 use Rattle.matrix.proofs.PackLaws.{cells_in, unlike_long, not_unlike}
 
 -- what no test's holding says
@@ -60,21 +62,33 @@ halved w v t e = ap (λ (n : ℕ). n / 2) e ∙ shr-shr v t 1
 
 -- ---- a row, word by word
 
-module _ (a : List ℕ) (x q c to : ℕ) (e : q ≡ planes c) where
-  pub row_none : (old : List ℕ) → Written (column a x q) to (min c (64 * 0)) old old
-  row_none old = let z : min c (64 * 0) ≡ 0 = omega arith in rw z (written_none (column a x q) to old)
+-- one digit more
+pub digits_next : (f : ℕ → ℕ) (ds : List ℕ) (i v : ℕ) → i < length ds → v ≡ f i → ((t : ℕ) → t < i → get_or ds t 0 ≡ f t) → (t : ℕ) → t < i + 1 → get_or (set ds i v) t 0 ≡ f t
+digits_next f ds i v room e D t h = go (dec_lt t i)
+  where
+    go : Dec (t < i) → get_or (set ds i v) t 0 ≡ f t
+    go (yes l) = get_or-set_other ds i t v 0 (λ d. omega arith) ∙ D t l
+    go (no l) =
+        let d : t ≡ i = omega arith in
+        rw d (get_or-set_same ds i v 0 room ∙ e)
 
-  pub row_more : (p n u s : ℕ) (old mid new : List ℕ) → p < q → n ≡ min 64 (c - 64 * p) → u ≡ get_or a (x + p) 0 → s ≡ get_or a (x + p + q) 0
-      → Written (column a x q) to (min c (64 * p)) old mid → Written (digit u s) (to + 64 * p) n mid new → Written (column a x q) to (min c (64 * (p + 1))) old new
-  row_more p n u s old mid new l en eu es W N =
-      let b : min c (64 * p) ≡ 64 * p = omega (arith, planes_room c, planes_tight c) in
-      let d : min c (64 * (p + 1)) ≡ 64 * p + n = omega (arith, planes_room c, planes_tight c) in
-      rw d
-      (written_more (column a x q) (digit u s) to (64 * p) n old mid new
-      (λ t h. sym (column_word a x q p t (omega arith) ∙ rw (← eu, ← es))) (rw b at W) N)
+module _ (a : List ℕ) (x q c : ℕ) (e : q ≡ planes c) where
+  -- the digits of a word more, which are written from place 64 p on
+  pub row_more : (p n k u s : ℕ) (row digits : List ℕ) → p < q → n ≡ min 64 (c - 64 * p) → k ≡ n → length row ≡ c → length digits ≡ k → u ≡ get_or a (x + p) 0 → s ≡ get_or a (x + p + q) 0
+      → ((j : ℕ) → j < min c (64 * p) → get_or row j 0 ≡ column a x q j) → ((t : ℕ) → t < length digits → get_or digits t 0 ≡ digit u s t)
+      → (j : ℕ) → j < min c (64 * (p + 1)) → get_or (put_mid (64 * p) k row digits) j 0 ≡ column a x q j
+  row_more p n k u s row digits l en ek long room eu es R D j h = go (dec_lt j (64 * p))
+    where
+      fits : 64 * p + k ≤ length row
+      fits = omega (arith, planes_tight c)
 
-  pub row_all : (p : ℕ) (old new : List ℕ) → q ≤ p → Written (column a x q) to (min c (64 * p)) old new → Written (column a x q) to c old new
-  row_all p old new h W = let b : min c (64 * p) ≡ c = omega (arith, planes_room c) in rw b at W
+      go : Dec (j < 64 * p) → get_or (put_mid (64 * p) k row digits) j 0 ≡ column a x q j
+      go (yes b) = put_before (64 * p) k row digits fits room j b ∙ R j (omega arith)
+      go (no b) =
+          let d : 64 * p + (j - 64 * p) ≡ j = omega arith in
+          let m : j - 64 * p < k = omega arith in
+          ap (λ (i : ℕ). get_or (put_mid (64 * p) k row digits) i 0) (sym d) ∙ put_within (64 * p) k row digits fits room (j - 64 * p) m ∙ D (j - 64 * p) (omega arith)
+          ∙ sym (column_word a x q p (j - 64 * p) (omega arith) ∙ rw (← eu, ← es)) ∙ ap (column a x q) d
 
 -- ---- rows
 
@@ -83,17 +97,18 @@ pub record BytesMade (M : Matrix) (c n long : ℕ) (new : List ℕ) : Type 0 whe
   pub len : length new ≡ long
   pub made : (i j : ℕ) → i < n → j < c → get_or new (i * c + j) 0 ≡ M i j
 
-pub bytes_none : (M : Matrix) (c : ℕ) (new : List ℕ) → BytesMade M c 0 (length new) new
-bytes_none M c new = record { len = refl; made = λ i j h l. absurd (omega arith) }
-
-pub bytes_more : (c q i n : ℕ) (a mid new : List ℕ) → q ≡ planes c → BytesMade (cell c a) c i n mid → Written (column a (i * (2 * q)) q) (i * c) c mid new → BytesMade (cell c a) c (i + 1) n new
-bytes_more c q i n a mid new e B W = record { len = W.long ∙ B.len; made = λ k j h l. go k j (dec_lt k i) h l }
+pub bytes_more : (c q i k n : ℕ) (a mid row : List ℕ) → q ≡ planes c → k ≡ c → length row ≡ k → i * c + c ≤ length mid → BytesMade (cell c a) c i n mid
+    → ((j : ℕ) → j < length row → get_or row j 0 ≡ column a (i * (2 * q)) q j) → BytesMade (cell c a) c (i + 1) n (put_mid (i * c) k mid row)
+bytes_more c q i k n a mid row e ek long room B R = record { len = put_long (i * c) k mid row fits long ∙ B.len; made = λ k j h l. go k j (dec_lt k i) h l }
   where
-    go : (k j : ℕ) → Dec (k < i) → k < i + 1 → j < c → get_or new (k * c + j) 0 ≡ cell c a k j
-    go k j (yes h) m l = W.before (k * c + j) (omega (arith, cells_in i c k h)) ∙ B.made k j h l
-    go k j (no h) m l =
-        let d : k ≡ i = omega arith in
-        rw d (W.written j l ∙ column_cell c i q j a e)
+    fits : i * c + k ≤ length mid
+    fits = omega arith
+
+    go : (h j : ℕ) → Dec (h < i) → h < i + 1 → j < c → get_or (put_mid (i * c) k mid row) (h * c + j) 0 ≡ cell c a h j
+    go h j (yes b) m l = put_before (i * c) k mid row fits long (h * c + j) (omega (arith, cells_in i c h b)) ∙ B.made h j b l
+    go h j (no b) m l =
+        let d : h ≡ i = omega arith in
+        rw d (put_within (i * c) k mid row fits long j (omega arith) ∙ R j (omega arith) ∙ column_cell c i q j a e)
 
 pub bytes_all : (M : Matrix) (r c : ℕ) (new : List ℕ) → BytesMade M c r (r * c) new → new ≡ bytes r c M
 unfolding bytes

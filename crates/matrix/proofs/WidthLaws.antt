@@ -1,34 +1,18 @@
 -- The quote without a loop and the default width, as the code comes by them. Assumes nothing.
 use mathlib.Core.Path.{◌≡◌, sym, ap}
 use mathlib.Core.Bool.{Bool, true, false}
-use Prim.Native.Nat.{ℕ, suc, ◌+◌, ◌-◌, ◌*◌, ◌/◌, ◌%◌, ◌≤◌, ◌<◌, min}
+use Prim.Native.Nat.{ℕ, suc, ◌+◌, ◌-◌, ◌*◌, ◌/◌, ◌%◌, ◌≤◌, ◌<◌}
 use native.Mathlib.Omega.{arith}
-use native.Mathlib.Nat.{mul-le-mul}
 use borrow.Author.Tests.{lt-ltb, le-ltb}
 use Rattle.steps.specs.Count.{block_quote, quote}
 use Rattle.steps.specs.Width.{better, cheapest, default_width}
 use Rattle.steps.proofs.Width.{quote_closed}
-use Rattle.steps.proofs.Most.{quote_most}
-
--- ---- the rows of a block
-
-pub rows_few : (m w : ℕ) → w < 2 → m * w ≡ m * min 2 w
-rows_few m w h = let e : w ≡ min 2 w = omega arith in ap (λ (v : ℕ). m * v) e
-
-pub rows_two : (m w : ℕ) → 2 ≤ w → m + m ≡ m * min 2 w
-rows_two m w h = let e : min 2 w ≡ 2 = omega arith in rw e (omega arith)
-
-pub rows_most : (m w : ℕ) → m ≤ 1024 → m * min 2 w ≤ 2048
-rows_most m w h = mul-le-mul {n₁ = m} {m₁ = min 2 w} {n₂ = 1024} {m₂ = 2} h (omega arith)
 
 -- ---- blocks, and the columns that are left
 
 module _ (m l k a b : ℕ) (pos : 0 < k) (ea : a ≡ block_quote m k) (eb : b ≡ block_quote m (l % k)) where
   pub quoted_is : l / k * a + b ≡ quote m l k
   quoted_is = rw (ea, eb) (sym (quote_closed m l k pos))
-
-  pub quoted_most : m ≤ 1024 → l ≤ 1024 → k ≤ 8 → l / k * a + b ≤ 1050112
-  quoted_most hm hl hk = rw quoted_is (quote_most m l k hm hl hk)
 
 -- ---- the cheapest of the widths so far
 

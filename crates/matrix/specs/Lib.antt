@@ -6,6 +6,7 @@ pub mod Unpack
 pub mod Combination
 pub mod Negation
 pub mod Scaling
+pub mod ByRow
 pub mod RowBlocks
 pub mod Transpose
 pub mod Tally

@@ -1,14 +1,13 @@
 -- What `opening` answers and leaves: a record, and zero in table and product. Assumes nothing.
-use Rattle.std.specs.Prelude.{◌||◌, List, [], ◌∷◌, ◌++◌, ℕ, ◌^◌, ltb, length}
+use Rattle.std.specs.Prelude.{◌||◌, List, [], ◌∷◌, ◌++◌, Result, ℕ, ◌^◌, ltb, length}
 use Rattle.buffers.specs.Buffer.{encode}
 use Rattle.requests.specs.declared.Size.{Size}
 use Rattle.requests.specs.declared.Buffer.TheVariants.{First, Second}
-use Rattle.requests.specs.Answers.{Tests, reason_word, answered}
+use Rattle.requests.specs.declared.Reason.{Reason}
+use Rattle.requests.specs.Answers.{Tests, word, held, answered}
 use Rattle.requests.specs.Sizes.{over}
 use Rattle.requests.specs.Faults.{pair_faults}
 use Rattle.matrix.specs.declared.job.Job.{Job}
-use Rattle.matrix.specs.declared.opening.Opened.{Opened}
-use Rattle.matrix.specs.declared.opening.Opened.TheVariants.{Done, Refused}
 use Rattle.matrix.specs.Job.{meant, unmatched}
 use Rattle.matrix.specs.Misfit.{misfit}
 
@@ -24,9 +23,8 @@ abbrev pub no_job : Job
 no_job = record { m = 0; l = 0; n = 0; width = 0; done = 0 }
 
 -- what an opening answers and leaves: its word and its record, and then table and product; refused, there is no record, and zeros stand for it
-abbrev pub opened : Opened → List ℕ → List ℕ → ℕ × (Job × (List ℕ × List ℕ))
-opened (Done job) t p = (0, (job, (t, p)))
-opened (Refused why) t p = (reason_word why, (no_job, (t, p)))
+abbrev pub opened : Result Job Reason → List ℕ → List ℕ → ℕ × (Job × (List ℕ × List ℕ))
+opened r t p = (word r, (held no_job r, (t, p)))
 
 abbrev pub new_job : Size → Size → ℕ → Job
 new_job x y width = record { m = x.rows; l = x.columns; n = y.columns; width = meant x width; done = 0 }

@@ -5,10 +5,15 @@ use Rattle.requests.specs.declared.Size.{Size}
 use Rattle.requests.specs.Answers.{answered}
 use Rattle.steps.specs.Step.{State, run, opening}
 use Rattle.steps.specs.StepList.{steps}
+use Rattle.walk.specs.declared.factors.Factors.{Factors}
+use Rattle.walk.specs.Factors.{matrix_of}
 use Rattle.matrix.specs.Job.{meant}
 use Rattle.matrix.specs.Opening.{opening_tests}
 
--- what the whole list leaves of the opening
+-- what the whole list leaves of the opening, of factors and of matrices
+abbrev pub ended : Factors → State
+ended f = run (matrix_of f.b) (steps f.a.rows f.a.columns f.width (matrix_of f.a)) opening
+
 unfoldable pub end_of : Size → Size → ℕ → List ℕ → List ℕ → State
 end_of x y width a b = run (cell y.columns b) (steps x.rows x.columns width (cell x.columns a)) opening
 

@@ -1,9 +1,10 @@
 -- What `turn` answers and leaves: the next steps of the list, on the contents as found. Assumes nothing.
-use Rattle.std.specs.Prelude.{Bool, false, ◌||◌, List, [], ◌∷◌, ◌++◌, ℕ, ◌^◌, ltb, eqb, length}
+use Rattle.std.specs.Prelude.{Bool, false, ◌||◌, List, [], ◌∷◌, ◌++◌, Result, ℕ, ◌^◌, ltb, eqb, length}
 use Rattle.buffers.specs.Buffer.{cell, encode}
 use Rattle.requests.specs.declared.Size.{Size}
 use Rattle.requests.specs.declared.Buffer.TheVariants.{First, Second, Third, Fourth}
-use Rattle.requests.specs.Answers.{Tests, reason_word, answered}
+use Rattle.requests.specs.declared.Reason.{Reason}
+use Rattle.requests.specs.Answers.{Tests, word, held, answered}
 use Rattle.requests.specs.Sizes.{over}
 use Rattle.requests.specs.Faults.{pair_faults}
 use Rattle.steps.specs.Step.{Step}
@@ -12,7 +13,6 @@ use Rattle.steps.specs.Turn.{made, Place, turn}
 use Rattle.walk.specs.Ran.{found}
 use Rattle.matrix.specs.declared.job.Job.{Job}
 use Rattle.matrix.specs.declared.turn.Turned.{Turned}
-use Rattle.matrix.specs.declared.turn.Turned.TheVariants.{Done, Refused}
 use Rattle.matrix.specs.Opening.{no_job}
 use Rattle.matrix.specs.Job.{unwide, table_size, product_size, total_of}
 use Rattle.matrix.specs.Misfit.{misfit}
@@ -57,11 +57,13 @@ left_of job a b t p budget = turn (cell job.n b) (steps_of job a) budget (record
 abbrev pub on_job : Job → ℕ → Job
 on_job job done = record { m = job.m; l = job.l; n = job.n; width = job.width; done = done }
 
+abbrev pub no_turn : Turned
+no_turn = record { job = no_job; made = 0; finished = false }
+
 -- what a turn answers and leaves: its word, its record, the steps made and whether the list is finished, and then table and product; refused, there
 -- is no record, and zeros and no stand for what is not there
-abbrev pub turned : Turned → List ℕ → List ℕ → ℕ × (Job × (ℕ × (Bool × (List ℕ × List ℕ))))
-turned (Done job steps finished) t p = (0, (job, (steps, (finished, (t, p)))))
-turned (Refused why) t p = (reason_word why, (no_job, (0, (false, (t, p)))))
+abbrev pub turned : Result Turned Reason → List ℕ → List ℕ → ℕ × (Job × (ℕ × (Bool × (List ℕ × List ℕ))))
+turned r t p = (word r, ((held no_turn r).job, ((held no_turn r).made, ((held no_turn r).finished, (t, p)))))
 
 -- the new record, the steps made, whether the list is finished, and then table and product
 unfoldable pub turned_of : Job → List ℕ → List ℕ → List ℕ → List ℕ → ℕ → Job × (ℕ × (Bool × (List ℕ × List ℕ)))

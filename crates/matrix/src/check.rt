@@ -5,17 +5,18 @@ ghost use Rattle.matrix.specs.Check.{check_means};
 
 use requests::faults::fault;
 use requests::sizes::{over, unfit};
-use requests::{Answer, Buffer, Reason, Size};
+use requests::{Buffer, Reason, Size};
 
 // Whether a buffer is a matrix of this size.
-pub fn check(s: Size, a: &[u64]) -> Answer
+#[tactic(auto, unfolding(crate::specs::Check::check_means, crate::specs::Check::check_tests, requests::specs::Answers::first))]
+pub fn check(s: Size, a: &[u64]) -> Result<(), Reason>
     ensures { word result ≡ check_means s a.now }
 {
     if over(s) {
-        return Answer::Refused(Reason::TooLarge);
+        return Err(Reason::TooLarge);
     }
     if unfit(s, a.len()) {
-        return Answer::Refused(Reason::LengthWrong);
+        return Err(Reason::LengthWrong);
     }
     fault(Buffer::First, s, a)
 }

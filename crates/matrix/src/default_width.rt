@@ -5,7 +5,7 @@ ghost use Rattle.steps.specs.Width.{better, default_width};
 
 use super::quoted::quoted;
 
-// A width, and its quote.
+// A width, and its quote. A chain `(1..9).map(..).min()` over pairs of a quote and its width was tried: its proof lacks that no other pair is less.
 #[derive(Clone, Copy)]
 struct Choice {
     width: u64,
@@ -19,10 +19,7 @@ fn better_of(m: u64, l: u64, best: Choice, k: u64) -> Choice
 {
     let steps = quoted(m, l, k);
     if steps < best.steps {
-        return Choice {
-            width: k,
-            steps: steps,
-        };
+        return Choice { width: k, steps };
     }
     best
 }
@@ -35,10 +32,8 @@ pub fn default_width(m: u64, l: u64) -> u64
         width: 1,
         steps: quoted(m, l, 1),
     };
-    let mut k = 2;
-    while k <= 8 {
+    for k in 2..9 {
         best = better_of(m, l, best, k);
-        k += 1;
     }
     best.width
 }

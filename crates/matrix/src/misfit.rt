@@ -1,12 +1,13 @@
 // The lengths of a job's buffers.
-ghost use Rattle.std.specs.Prelude.{◌≡◌, false, ◌||◌, ◌≤◌};
-ghost use Rattle.requests.specs.Sizes.{over};
+ghost use Rattle.std.specs.Prelude.{◌≡◌, ◌≤◌};
 ghost use Rattle.matrix.specs.Misfit.{misfit};
 
+use super::job::{product_size, table_size};
 use requests::Size;
 use requests::sizes::unfit;
 
 // A buffer isn't of the exact length: A, B, table or product.
+#[tactic(auto, unfolding(crate::specs::Misfit::misfit))]
 pub fn misfit(
     x: Size,
     y: Size,
@@ -16,25 +17,11 @@ pub fn misfit(
     table: usize,
     product: usize,
 ) -> bool
-    requires { ((over x || over y) ≡ false) × (width ≤ 8) }
+    requires { width ≤ 8 }
     ensures { result ≡ misfit x y width a b table product }
 {
-    if unfit(x, a) {
-        return true;
-    }
-    if unfit(y, b) {
-        return true;
-    }
-    let t = Size {
-        rows: 1 << width,
-        columns: y.columns,
-    };
-    if unfit(t, table) {
-        return true;
-    }
-    let p = Size {
-        rows: x.rows,
-        columns: y.columns,
-    };
-    unfit(p, product)
+    unfit(x, a)
+        || unfit(y, b)
+        || unfit(table_size(y, width), table)
+        || unfit(product_size(x, y), product)
 }

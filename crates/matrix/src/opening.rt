@@ -8,41 +8,41 @@ use super::meant::meant;
 use super::misfit::misfit;
 use requests::faults::either_fault;
 use requests::sizes::either_over;
-use requests::{Answer, Buffer, Reason, Size};
-use rows::clear::clear;
-
-// Done with its record, or refused with a reason and no record.
-#[derive(Clone, Copy)]
-pub enum Opened {
-    Done(Job),
-    Refused(Reason),
-}
+use requests::{Buffer, Reason, Size};
 
 // The tests of sizes, width, lengths and cells; t and p are how many words table and product have.
-pub fn judged(x: Size, y: Size, width: u64, a: &[u64], b: &[u64], t: usize, p: usize) -> Answer
+#[tactic(auto, unfolding(crate::specs::Opening::opening_tests, requests::specs::Answers::first))]
+pub fn judged(
+    x: Size,
+    y: Size,
+    width: u64,
+    a: &[u64],
+    b: &[u64],
+    t: usize,
+    p: usize,
+) -> Result<(), Reason>
     ensures { word result ≡ first (opening_tests x y width a.now b.now t p) }
 {
     if either_over(x, y) {
-        return Answer::Refused(Reason::TooLarge);
+        return Err(Reason::TooLarge);
     }
     if x.columns != y.rows {
-        return Answer::Refused(Reason::SizesDiffer);
+        return Err(Reason::SizesDiffer);
     }
     if width > 8 {
-        return Answer::Refused(Reason::WidthWrong);
+        return Err(Reason::WidthWrong);
     }
     if misfit(x, y, meant(x, width), a.len(), b.len(), t, p) {
-        return Answer::Refused(Reason::LengthWrong);
+        return Err(Reason::LengthWrong);
     }
     either_fault(Buffer::First, Buffer::Second, x, y, a, b)
 }
 
-// Zero in a whole buffer.
+// Zero in a whole buffer: a function, since opening and product cite its clause.
 pub fn zero(out: &mut [u64])
     ensures { (length out.new ≡ length out.old) × ((k : ℕ) → get_or out.new k 0 ≡ 0) }
 {
-    let n = out.len();
-    clear(out, n, 0);
+    out.fill(0);
 }
 
 pub fn opening(
@@ -53,21 +53,17 @@ pub fn opening(
     b: &[u64],
     table: &mut [u64],
     product: &mut [u64],
-) -> Opened
+) -> Result<Job, Reason>
     ensures { opened result table.new product.new ≡ opening_means x y width a.now b.now table.old product.old }
 {
-    let f = judged(x, y, width, a, b, table.len(), product.len());
-    if let Answer::Refused(why) = f {
-        return Opened::Refused(why);
-    }
+    judged(x, y, width, a, b, table.len(), product.len())?;
     zero(table);
     zero(product);
-    let new = Job {
+    Ok(Job {
         m: x.rows,
         l: x.columns,
         n: y.columns,
         width: meant(x, width),
         done: 0,
-    };
-    Opened::Done(new)
+    })
 }

@@ -1,27 +1,23 @@
 // The whole product as one request: an opening, and then every step of the list.
 ghost use Rattle.std.specs.Prelude.{◌≡◌, ◌^◌, length};
-ghost use Rattle.buffers.specs.Buffer.{words, cell, Legal, encode};
+ghost use Rattle.buffers.specs.Buffer.{words, encode};
 ghost use Rattle.requests.specs.Answers.{word};
-ghost use Rattle.steps.specs.Step.{run, opening};
-ghost use Rattle.steps.specs.StepList.{steps};
-ghost use Rattle.walk.specs.Shape.{Within};
-ghost use Rattle.matrix.specs.Product.{product_means};
+ghost use Rattle.matrix.specs.Product.{ended, product_means};
 
 use super::meant::meant;
 use super::opening::{judged, zero};
-use requests::{Answer, Size, word};
-use walk::Shape;
-use walk::whole::blocks_all;
+use requests::{Reason, Size};
+use walk::factors::{Factors, Packed};
 
 // Every step of the list, from the opening.
-fn multiplied(shape: Shape, a: &[u64], b: &[u64], table: &mut [u64], product: &mut [u64])
-    requires { Within shape × Legal shape.m shape.l a.now × Legal shape.l shape.n b.now × (length table.old ≡ words (2 ^ shape.width) shape.n) × (length product.old ≡ words shape.m shape.n) }
-    ensures { (table.new ≡ encode (2 ^ shape.width) shape.n (run (cell shape.n b.now) (steps shape.m shape.l shape.width (cell shape.l a.now)) opening).table)
-        × (product.new ≡ encode shape.m shape.n (run (cell shape.n b.now) (steps shape.m shape.l shape.width (cell shape.l a.now)) opening).product) }
+fn multiplied(factors: &Factors, table: &mut [u64], product: &mut [u64])
+    requires { (length table.old ≡ words (2 ^ factors.now.width) factors.now.b.columns) × (length product.old ≡ words factors.now.a.rows factors.now.b.columns) }
+    ensures { (table.new ≡ encode (2 ^ factors.now.width) factors.now.b.columns (ended factors.now).table)
+        × (product.new ≡ encode factors.now.a.rows factors.now.b.columns (ended factors.now).product) }
 {
     zero(table);
     zero(product);
-    blocks_all(table, product, a, b, shape);
+    factors.blocks_all(table, product);
 }
 
 pub fn product(
@@ -32,19 +28,15 @@ pub fn product(
     b: &[u64],
     table: &mut [u64],
     product: &mut [u64],
-) -> Answer
+) -> Result<(), Reason>
     ensures { (word result, (table.new, product.new)) ≡ product_means x y width a.now b.now table.old product.old }
 {
-    let f = judged(x, y, width, a, b, table.len(), product.len());
-    if word(f) != 0 {
-        return f;
-    }
-    let shape = Shape {
-        m: x.rows as usize,
-        l: x.columns as usize,
-        n: y.columns as usize,
+    judged(x, y, width, a, b, table.len(), product.len())?;
+    let factors = Factors {
+        a: Packed::new(x.rows as usize, x.columns as usize, a),
+        b: Packed::new(x.columns as usize, y.columns as usize, b),
         width: meant(x, width) as usize,
     };
-    multiplied(shape, a, b, table, product);
-    Answer::Done
+    multiplied(&factors, table, product);
+    Ok(())
 }

@@ -1,4 +1,5 @@
 // The size quote without a loop: the whole blocks, and one of the columns that are left.
+// Rows and columns stand apart, as the definitions quote and default_width have them.
 ghost use Rattle.std.specs.Prelude.{◌≡◌, ◌*◌, ◌≤◌, ◌<◌, min};
 ghost use Rattle.steps.specs.Count.{block_quote, quote};
 
@@ -7,10 +8,7 @@ fn row_steps(m: u64, w: u64) -> u64
     requires { m ≤ 1024 }
     ensures { (result ≡ m * min 2 w) × (result ≤ 2048) }
 {
-    if w < 2 {
-        return m * w;
-    }
-    m + m
+    m * w.min(2)
 }
 
 // Its table steps come before them.

@@ -1,47 +1,26 @@
 // The tally of a row, which is a matrix of one row.
-ghost use Rattle.std.specs.Prelude.{◌≡◌, ◌&&◌, eqb};
-ghost use Rattle.requests.specs.Answers.{word};
-ghost use Rattle.matrix.specs.Tally.{tally_means};
+ghost use Rattle.std.specs.Prelude.{◌≡◌};
+ghost use Rattle.matrix.specs.Tally.{tally_told, tally_means};
 
 use super::check::check;
 use buffers::planes::planes;
-use requests::{Answer, Size, word};
+use requests::{Reason, Size};
 
 // Zeros, ones and twos, and whether all three are equally many.
-#[derive(Clone, Copy)]
+#[derive(Clone, Copy, Debug, PartialEq, Eq)]
 pub struct Tallied {
-    pub answer: Answer,
     pub counts: [u64; 3],
     pub balanced: bool,
 }
 
-fn equally_many(zeros: u64, ones: u64, twos: u64) -> bool
-    ensures { result ≡ (eqb zeros ones && eqb ones twos) }
+pub fn tally(columns: u64, a: &[u64]) -> Result<Tallied, Reason>
+    ensures { tally_told result ≡ tally_means columns a.now }
 {
-    zeros == ones && ones == twos
-}
-
-pub fn tally(columns: u64, a: &[u64]) -> Tallied
-    ensures { (word result.answer, (result.counts, result.balanced)) ≡ tally_means columns a.now }
-{
-    let s = Size {
-        rows: 1,
-        columns: columns,
-    };
-    let f = check(s, a);
-    if word(f) != 0 {
-        return Tallied {
-            answer: f,
-            counts: [0, 0, 0],
-            balanced: false,
-        };
-    }
+    check(Size { rows: 1, columns }, a)?;
     let c = columns as usize;
     let counts = rows::tally::tally(a, planes(c), c, 0);
-    let balanced = equally_many(counts[0], counts[1], counts[2]);
-    Tallied {
-        answer: Answer::Done,
-        counts: counts,
-        balanced: balanced,
-    }
+    Ok(Tallied {
+        counts,
+        balanced: counts[0] == counts[1] && counts[1] == counts[2],
+    })
 }

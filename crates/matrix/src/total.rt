@@ -1,44 +1,30 @@
 // The exact total: the length of the list of row steps.
 ghost use Rattle.std.specs.Prelude.{◌≡◌};
-ghost use Rattle.requests.specs.Answers.{word, first};
+ghost use Rattle.requests.specs.Answers.{word, told, first};
 ghost use Rattle.matrix.specs.Total.{total_tests, total_means};
 
 use super::meant::meant;
-use super::quote::Counted;
 use requests::faults::fault;
-use requests::sizes::{over, unfit};
-use requests::{Answer, Buffer, Reason, Size, word};
-use walk::place::place;
+use requests::sizes::unfit;
+use requests::{Buffer, Reason, Size};
+use walk::factors::Packed;
 
-fn judged(x: Size, width: u64, a: &[u64]) -> Answer
+#[tactic(auto, unfolding(crate::specs::Total::total_tests, crate::specs::Quote::quote_tests, requests::specs::Answers::first))]
+fn judged(x: Size, width: u64, a: &[u64]) -> Result<(), Reason>
     ensures { word result ≡ first (total_tests x width a.now) }
 {
-    if over(x) {
-        return Answer::Refused(Reason::TooLarge);
-    }
-    if width > 8 {
-        return Answer::Refused(Reason::WidthWrong);
-    }
+    super::quote::judged(x, width)?;
     if unfit(x, a.len()) {
-        return Answer::Refused(Reason::LengthWrong);
+        return Err(Reason::LengthWrong);
     }
     fault(Buffer::First, x, a)
 }
 
-pub fn total(x: Size, width: u64, a: &[u64]) -> Counted
-    ensures { (word result.answer, result.steps) ≡ total_means x width a.now }
+pub fn total(x: Size, width: u64, a: &[u64]) -> Result<u64, Reason>
+    ensures { told 0 result ≡ total_means x width a.now }
 {
-    let f = judged(x, width, a);
-    if word(f) != 0 {
-        return Counted {
-            answer: f,
-            steps: 0,
-        };
-    }
+    judged(x, width, a)?;
     let k = meant(x, width) as usize;
-    let at = place(a, x.rows as usize, x.columns as usize, k, 0);
-    Counted {
-        answer: Answer::Done,
-        steps: at.total,
-    }
+    let packed = Packed::new(x.rows as usize, x.columns as usize, a);
+    Ok(packed.place(k, 0).total)
 }

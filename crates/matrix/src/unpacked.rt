@@ -1,16 +1,13 @@
 // Unpacked, a matrix is one byte a cell.
-ghost use Rattle.std.specs.Prelude.{◌≡◌, false};
-ghost use Rattle.requests.specs.Sizes.{over};
+ghost use Rattle.std.specs.Prelude.{◌≡◌};
 ghost use Rattle.matrix.specs.Unpacked.{unlike};
 
 use requests::Size;
 
 // n bytes are not a matrix's.
+#[tactic(auto, unfolding(crate::specs::Unpacked::unlike))]
 pub fn unlike(s: Size, n: usize) -> bool
-    requires { over s ≡ false }
     ensures { result ≡ unlike s n }
 {
-    let r = s.rows as usize;
-    let c = s.columns as usize;
-    n != r * c
+    s.rows.checked_mul(s.columns) != Some(n as u64)
 }

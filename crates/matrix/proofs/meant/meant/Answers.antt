@@ -10,5 +10,5 @@ pub returns-then-width-eq0 : goal.returns-then-width-eq0
 unfolding meant
 returns-then-width-eq0 c = rw c.if-width-eq0.true c.default_width.ensures
 
-pub returns : goal.returns
-returns c = meant_some _ _ c.if-width-eq0.false
+pub returns-else-width-eq0 : goal.returns-else-width-eq0
+returns-else-width-eq0 c = meant_some _ _ c.if-width-eq0.false

@@ -1,40 +1,25 @@
-use mathlib.Core.Path.{◌≡◌, subst}
-use Prim.Native.Nat.{ℕ, ◌+◌, ◌-◌, ◌*◌, min}
-use lib.ListN.{get_or}
+use mathlib.Core.Path.{refl}
+use Rattle.std.proofs.Common.{◌+◌, ◌-◌, ◌*◌, min, length, get_or, arith}
 use Rattle.buffers.proofs.SizeLaws.{planes_le, planes_tight}
-use Rattle.rows.specs.Row.{Made}
-use Rattle.rows.proofs.RowLaws.{made_none, made_next}
-use Rattle.cells.specs.Pair.{WordPair}
+use Rattle.rows.proofs.RowLaws.{made_next}
 use Rattle.matrix.specs.Gathered.{up_to}
-use Rattle.matrix.proofs.GatherLaws.{packed_holds}
-use native.Mathlib.Omega.{arith}
+use Rattle.matrix.proofs.GatherLaws.{between_holds}
 use Rattle.matrix.proofs.pack.pack_row.Goals as goal
 
-pub loop-p-init : goal.loop-p-init
-loop-p-init c = (omega arith, made_none _ _ _ _)
-
-pub overflow_mul-p : goal.overflow_mul-p
-overflow_mul-p c = omega (arith, planes_le _ c.requires.0)
-
-pub overflow_add-from : goal.overflow_add-from
-overflow_add-from c = omega (arith, planes_tight c.args.c)
+pub overflow_mul-from : goal.overflow_mul-from
+overflow_mul-from c = omega (arith, planes_le _ c.requires.0)
 
 pub real-requires : goal.real-requires
-real-requires c = (c.requires.0, omega (arith, planes_tight c.args.c))
+real-requires c = (c.requires.0, omega (arith, planes_tight (length c.args.row.now)))
 
-pub packed-v-requires : goal.packed-v-requires
-packed-v-requires c = (omega (arith, c.real.ensures), omega (arith, c.real.ensures, planes_tight c.args.c), c.requires.4)
+pub overflow_add-from : goal.overflow_add-from
+overflow_add-from c = omega (arith, c.real.ensures, planes_le _ c.requires.0)
 
-pub store-requires : goal.store-requires
-store-requires c = omega (arith, c.loop-p.invariant.1.long)
+pub slice_bounds-pack_pair-end : goal.slice_bounds-pack_pair-end
+slice_bounds-pack_pair-end c = omega (arith, c.real.ensures, planes_tight (length c.args.row.now))
 
 pub loop-p-preserved : goal.loop-p-preserved
-loop-p-preserved c = (omega arith, rw c.store.ensures (made_next (λ p. up_to (min 64 (c.args.c - 64 * p)) (λ t. get_or c.args.cells.now (c.args.from + 64 * p + t) 0)) c.args.x c.args.q c.loop-p.p _ _ _ _ (omega arith) (omega (arith, c.loop-p.invariant.1.long)) (subst (λ (n : ℕ). WordPair (up_to n (λ t. get_or c.args.cells.now (c.args.from + 64 * c.loop-p.p + t) 0)) c.packed-v.result.unit c.packed-v.result.sign) c.real.ensures (packed_holds (λ t. get_or c.args.cells.now (c.args.from + 64 * c.loop-p.p + t) 0) c.real.result _ _ (omega (arith, c.real.ensures)) (λ t. c.requires.4 (c.args.from + 64 * c.loop-p.p + t)) c.packed-v.ensures.0 c.packed-v.ensures.1)) c.loop-p.invariant.1))
-
-pub shape_of-out : goal.shape_of-out
-shape_of-out c = c.loop-p.invariant.1.long
-
-pub returns : goal.returns
-returns c =
-    let e : c.loop-p.p ≡ c.args.q = omega arith in
-    subst (λ (n : ℕ). Made (λ p. up_to (min 64 (c.args.c - 64 * p)) (λ t. get_or c.args.cells.now (c.args.from + 64 * p + t) 0)) c.args.x c.args.q n c.args.out.now c.loop-p.out) e c.loop-p.invariant.1
+loop-p-preserved c =
+    let made = between_holds c.args.row.now (64 * c.loop-p.p) _ c.real.result _ _ refl (omega (arith, c.real.ensures, planes_tight (length c.args.row.now))) (omega (arith, c.real.ensures)) c.requires.3 c.pack_pair-pair.ensures.0 c.pack_pair-pair.ensures.1 in
+    rw c.store.ensures
+    (made_next (λ p. up_to (min 64 (length c.args.row.now - 64 * p)) (λ t. get_or c.args.row.now (64 * p + t) 0)) c.args.x c.args.q c.loop-p.p _ _ _ _ (omega arith) (omega (arith, c.loop-p.invariant.long)) (rw c.real.ensures at made) c.loop-p.invariant)

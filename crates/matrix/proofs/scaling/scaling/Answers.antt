@@ -1,18 +1,28 @@
-use mathlib.Core.Path.{sym, ◌∙◌}
+use Rattle.std.proofs.Common.{rules}
+use mathlib.Core.Path.{sym}
 use Rattle.matrix.specs.Scaling.{scaling_means}
 use Rattle.matrix.proofs.ScalingLaws.{ready}
-use Rattle.requests.proofs.AnswerLaws.{refused, finished}
+use Rattle.requests.proofs.AnswerLaws.{finished}
+use Rattle.requests.proofs.WordLaws.{refused_by}
 use Rattle.matrix.proofs.scaling.scaling.Goals as goal
 
-pub returns-then-word-ne0 : goal.returns-then-word-ne0
+pub returns-in_err-judged : goal.returns-in_err-judged
 unfolding scaling_means
-returns-then-word-ne0 c = refused _ _ _ _ (λ z. c.if-word-ne0.true (c.word.ensures ∙ z)) (sym c.judged-f.ensures)
+returns-in_err-judged c = search (rules, refused_by)
+
+pub new-packed-requires : goal.new-packed-requires
+new-packed-requires c =
+    let r = ready c.args.s c.args.d c.args.a.now _ (sym c.in_ok-judged.ensures) in
+    (r.rows, r.columns, r.legal)
 
 pub scaling_rows-requires : goal.scaling_rows-requires
 scaling_rows-requires c =
-    let r = ready c.args.s c.args.d c.args.a.now _ (sym c.judged-f.ensures ∙ sym c.word.ensures ∙ c.if-word-ne0.false) in
-    (r.rows, r.columns, r.digit, r.legal, r.room)
+    let r = ready c.args.s c.args.d c.args.a.now _ (sym c.in_ok-judged.ensures) in
+    let packed = c.new-packed.ensures in
+    (rw c.from.ensures r.digit, rw (packed.0, packed.1) r.room)
 
 pub returns : goal.returns
 unfolding scaling_means
-returns c = finished _ _ _ _ (sym c.judged-f.ensures ∙ sym c.word.ensures ∙ c.if-word-ne0.false) c.scaling_rows.ensures
+returns c =
+    let packed = c.new-packed.ensures in
+    finished _ _ _ _ (sym c.in_ok-judged.ensures) (rw (packed.0, packed.1, packed.2, c.from.ensures) at c.scaling_rows.ensures)

@@ -1,35 +1,17 @@
-use mathlib.Core.Path.{◌≡◌, ◌∙◌}
+use Rattle.std.proofs.Common.{refl, ◌*◌, rules, arith}
 use Rattle.cells.specs.Digit.{mul3}
+use Rattle.buffers.specs.Buffer.{planes}
+use Rattle.rows.specs.Row.{of1}
+use Rattle.rows.proofs.MatrixLaws.{placewise1}
 use Rattle.matrix.specs.Scaling.{scaling_of}
-use Rattle.buffers.proofs.SizeLaws.{planes_le, words_le, row_fits}
-use Rattle.rows.proofs.MatrixLaws.{rows_none, rows_more, row_readable, placewise1}
-use native.Mathlib.Omega.{arith}
+use Rattle.matrix.proofs.ByRowLaws.{row_room, row_lent, rows_made}
 use Rattle.matrix.proofs.scaling.scaling_rows.Goals as goal
 
-pub overflow_mul-w : goal.overflow_mul-w
-overflow_mul-w c = omega (arith, planes_le _ c.requires.1)
-
-pub loop-i-init : goal.loop-i-init
-loop-i-init c = (omega arith, rows_none _ _ _)
-
-pub overflow_mul-x : goal.overflow_mul-x
-overflow_mul-x c = omega (arith, row_fits _ _ c.loop-i.i _ _ c.planes-q.ensures c.requires.3.long (omega arith), words_le _ _ c.requires.0 c.requires.1)
-
-pub scaling-requires : goal.scaling-requires
-scaling-requires c = (
-  c.requires.2,
-  row_fits _ _ c.loop-i.i _ _ c.planes-q.ensures (c.loop-i.invariant.1.len ∙ c.requires.4) (omega arith),
-  row_readable _ _ c.loop-i.i _ _ c.planes-q.ensures c.requires.3 (λ n. omega (arith, c.shared_slice_known-1.given n)) (omega arith),
-)
-
-pub loop-i-preserved : goal.loop-i-preserved
-loop-i-preserved c = (omega arith, rows_more _ _ _ _ _ _ c.loop-i.invariant.1 c.scaling.ensures)
-
-pub shape_of-out : goal.shape_of-out
-shape_of-out c = c.loop-i.invariant.1.len
+pub by_row-requires-clause-accepts : goal.by_row-requires-clause-accepts
+by_row-requires-clause-accepts c = λ i old h l. search (rules, row_room, row_lent)
 
 pub returns : goal.returns
 unfolding scaling_of mul3
 returns c =
-    let e : c.loop-i.i ≡ c.args.r = omega arith in
-    placewise1 (λ a. mul3 a c.args.d) (omega arith) _ _ _ _ _ c.planes-q.ensures c.requires.3 (rw (e, c.requires.4) at c.loop-i.invariant.1)
+    let made = c.by_row.ensures (λ k. of1 (λ a. mul3 a c.args.d) (planes c.args.a.now.columns) c.args.a.now.words.now (k * (2 * planes c.args.a.now.columns))) (λ i old new h l called. search rules) in
+    placewise1 (λ a. mul3 a c.args.d) (omega arith) _ _ _ _ _ refl c.args.a.now.legal (rows_made _ _ _ _ _ made)

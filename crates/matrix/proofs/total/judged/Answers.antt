@@ -1,27 +1,22 @@
+use Rattle.std.proofs.Common.{rules}
 use mathlib.Core.Path.{sym, ◌∙◌}
-use borrow.Author.Tests.{lt-ltb, le-ltb}
-use Rattle.requests.specs.Answers.{first}
+use mathlib.Core.List.{◌∷◌}
+use Rattle.requests.specs.declared.Buffer.TheVariants.{First}
+use Rattle.std.specs.Prelude.{length}
+use Rattle.requests.specs.Sizes.{unfit}
+use Rattle.requests.specs.Faults.{faults}
+use Rattle.requests.proofs.AnswerLaws.{append_given}
+use Rattle.requests.proofs.WordLaws.{some_reason}
+use Rattle.matrix.specs.Quote.{quote_tests}
 use Rattle.matrix.specs.Total.{total_tests}
 use Rattle.matrix.proofs.total.judged.Goals as goal
 
-pub returns-then-over : goal.returns-then-over
-unfolding total_tests first
-returns-then-over c = rw (sym c.over.ensures ∙ c.if-over.true)
-
-pub returns-then-width-gt8 : goal.returns-then-width-gt8
-unfolding total_tests first
-returns-then-width-gt8 c = rw (sym c.over.ensures ∙ c.if-over.false, lt-ltb 8 c.args.width c.if-width-gt8.true)
-
-pub unfit-requires : goal.unfit-requires
-unfit-requires c = sym c.over.ensures ∙ c.if-over.false
-
-pub returns-then-unfit : goal.returns-then-unfit
-unfolding total_tests first
-returns-then-unfit c = rw (sym c.over.ensures ∙ c.if-over.false, le-ltb 8 c.args.width c.if-width-gt8.false, sym c.unfit.ensures ∙ c.if-unfit.true)
-
-pub fault-requires : goal.fault-requires
-fault-requires c = (sym c.over.ensures ∙ c.if-over.false, sym c.unfit.ensures ∙ c.if-unfit.false)
-
-pub returns : goal.returns
-unfolding total_tests first
-returns c = rw (sym c.over.ensures ∙ c.if-over.false, le-ltb 8 c.args.width c.if-width-gt8.false, sym c.unfit.ensures ∙ c.if-unfit.false) c.fault.ensures
+-- the tests of size and width are the first two
+pub returns-in_err-judged : goal.returns-in_err-judged
+unfolding total_tests quote_tests
+returns-in_err-judged c =
+    let refused = c.in_err-judged.ensures in
+    let tests = quote_tests c.args.x c.args.width in
+    let more = (unfit c.args.x (length c.args.a.now), 4) ∷ faults First c.args.x c.args.a.now in
+    let all = refused ∙ sym (append_given tests more (λ e. some_reason _ (refused ∙ e))) in
+    search (rules, all)
