@@ -1,15 +1,24 @@
 -- What a header line says. Assumes nothing.
-use mathlib.Core.Path.{◌≡◌}
+use mathlib.Core.Path.{◌≡◌, refl, ◌∙◌}
 use mathlib.Core.Bool.{Bool}
 use mathlib.Core.List.{List, [], ◌∷◌, ◌++◌}
 use Prim.Native.Nat.{ℕ, ◌+◌, ◌*◌, ◌≤◌}
 use native.Mathlib.Omega.{arith}
+use lib.ListN.{length, take, drop}
 use Rattle.buffers.specs.Buffer.{tab}
 use Rattle.requests.specs.declared.Size.{Size}
 use Rattle.requests.specs.Sizes.{over}
 use Rattle.hexadecimal.specs.Digit.{nibble}
 use Rattle.hexadecimal.specs.Line.{hex_of, value_of}
+use Rattle.hexadecimal.proofs.HexLaws.{value_part}
 use Rattle.frames.specs.Header.{header_of, size_of}
+
+-- the two counts, as the code reads them
+pub rows_read : (line : List ℕ) (r : ℕ) → length line ≡ 9 → r ≡ value_of (take 4 line) 0 (length (take 4 line)) → r ≡ value_of line 0 4
+rows_read line r long e = e ∙ value_part line 0 4 4 refl (omega (arith, long))
+
+pub columns_read : (line : List ℕ) (c : ℕ) → length line ≡ 9 → c ≡ value_of (take 4 (drop 4 line)) 0 (length (take 4 (drop 4 line))) → c ≡ value_of line 4 4
+columns_read line c long e = e ∙ value_part line 4 4 4 refl (omega (arith, long))
 
 pub header_over : (line : List ℕ) (r c : ℕ) {b : Bool} → r ≡ value_of line 0 4 → c ≡ value_of line 4 4 → over (record { rows = r; columns = c }) ≡ b → over (size_of line) ≡ b
 unfolding size_of over

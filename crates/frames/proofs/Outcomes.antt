@@ -1,25 +1,25 @@
 -- Two outcomes that satisfy a line's statement coincide, as no word of a line has a place, and the statement refuses exactly when a test holds. Assumes nothing.
-use mathlib.Core.Path.{◌≡◌, ap}
+use mathlib.Core.Path.{◌≡◌, sym, ◌∙◌}
 use mathlib.Core.List.{List}
 use Prim.Native.Nat.{ℕ}
 use lib.ListN.{length}
+use Rattle.std.specs.Prelude.{Result}
 use Rattle.buffers.specs.Buffer.{wide}
 use Rattle.requests.specs.declared.Size.{Size}
-use Rattle.requests.specs.declared.Answer.{Answer}
-use Rattle.requests.specs.Answers.{word}
+use Rattle.requests.specs.declared.Reason.{Reason}
+use Rattle.requests.specs.Answers.{Answer, word}
 use Rattle.requests.specs.Exact.{Exact}
 use Rattle.requests.proofs.AnswerLaws.{exact}
-use Rattle.requests.proofs.WordLaws.{coincide_placeless}
-use Rattle.frames.specs.declared.header.Header.{Header}
-use Rattle.frames.specs.Header.{header_of, size_of, read_header_tests, read_header_means, write_header_tests, write_header_means}
+use Rattle.requests.proofs.WordLaws.{coincide_placeless, placeless_typed, told_same}
+use Rattle.frames.specs.Header.{header_of, size_of, no_size, header_told, read_header_tests, read_header_means, write_header_tests, write_header_means}
 use Rattle.frames.specs.RowLine.{line_of, words_of, read_row_tests, read_row_means, write_row_tests, write_row_means}
 
-pub read_header_one : (line : List ℕ) (r r' : Header) → (word r.answer, (r.rows, r.columns)) ≡ read_header_means line
-    → (word r'.answer, (r'.rows, r'.columns)) ≡ read_header_means line → (r.answer ≡ r'.answer) × (r.rows ≡ r'.rows) × (r.columns ≡ r'.columns)
+pub read_header_one : (line : List ℕ) (r r' : Result Size Reason) → header_told r ≡ read_header_means line → header_told r' ≡ read_header_means line → r ≡ r'
 unfolding read_header_means read_header_tests
 read_header_one line r r' p q =
-    let e = coincide_placeless (read_header_tests line) _ _ r.answer r'.answer (r.rows, r.columns) (r'.rows, r'.columns) tt p q in
-    (e.0, ap (λ (v : ℕ × ℕ). v.0) e.1, ap (λ (v : ℕ × ℕ). v.1) e.1)
+    let e = p ∙ sym q in
+    told_same no_size r r' (placeless_typed (read_header_tests line) _ _ r _ tt p) (placeless_typed (read_header_tests line) _ _ r' _ tt q)
+    (λ t. ((e t).0, record { rows = (e t).1.0; columns = (e t).1.1 }))
 
 pub write_header_one : (s : Size) (line : List ℕ) (r r' : Answer) (o o' : List ℕ) → (word r, o) ≡ write_header_means s line → (word r', o') ≡ write_header_means s line → (r ≡ r') × (o ≡ o')
 unfolding write_header_means write_header_tests

@@ -1,29 +1,39 @@
-// The line of a row: its words in order, sixteen digits each, and byte 10. A row of no words is byte 10 alone.
-ghost use Rattle.std.specs.Prelude.{◌≡◌, ℕ, ◌+◌, ◌*◌, ◌≤◌, ◌<◌, length, get_or};
+// The line of a row: its words in order, sixteen digits each, and byte 10. A row of no words is byte 10 alone. No heap: words and line are lent, and
+// their lengths are tested against the columns first.
+ghost use Rattle.std.specs.Prelude.{◌≡◌, ℕ, ◌+◌, ◌*◌, ◌≤◌, ◌<◌, length, get_or, MatchResult};
+ghost use Rattle.buffers.specs.Buffer.{wide};
 ghost use Rattle.requests.specs.Answers.{word, first};
+ghost use Rattle.requests.specs.declared.Reason.TheVariants.{TooLarge};
 ghost use Rattle.hexadecimal.specs.Digit.{digit_of};
 ghost use Rattle.frames.specs.RowLine.{line_of, words_of, read_row_tests, read_row_means, write_row_tests, write_row_means};
 
 use buffers::planes::planes;
 use hexadecimal::digit::byte_of;
 use hexadecimal::line::{unframed, value};
-use requests::{Answer, Reason, word};
+use requests::Reason;
 
-// What is wrong with a line to be read into n words.
-fn readable(columns: u64, line: &[u8], n: usize) -> Answer
-    ensures { word result ≡ first (read_row_tests columns line.now n) }
+// How many words a row has: of at most 1,024 columns.
+fn words_of_row(columns: u64) -> Result<usize, Reason>
+    ensures { MatchResult result (λ w. (w ≡ wide columns) × (columns ≤ 1024)) (λ reason. (1024 < columns) × (reason ≡ TooLarge)) }
 {
     if columns > 1024 {
-        return Answer::Refused(Reason::TooLarge);
+        return Err(Reason::TooLarge);
     }
-    let w = 2 * planes(columns as usize);
+    Ok(2 * planes(columns as usize))
+}
+
+// What is wrong with a line to be read into n words.
+fn readable(columns: u64, line: &[u8], n: usize) -> Result<(), Reason>
+    ensures { word result ≡ first (read_row_tests columns line.now n) }
+{
+    let w = words_of_row(columns)?;
     if n != w {
-        return Answer::Refused(Reason::LengthWrong);
+        return Err(Reason::LengthWrong);
     }
     if unframed(line, w * 16) {
-        return Answer::Refused(Reason::NotAFrame);
+        return Err(Reason::NotAFrame);
     }
-    Answer::Done
+    Ok(())
 }
 
 // All words, from a line whose bytes are digits.
@@ -31,64 +41,48 @@ fn read_words(line: &[u8], words: &mut [u64])
     requires { (length words.old * 16 ≤ length line.now) × ((k : ℕ) → k < length words.old * 16 → digit_of (get_or line.now k 0) < 16) }
     ensures { words.new ≡ words_of (length words.old) line.now }
 {
-    let mut p = 0;
-    while p < words.len() {
-        words[p] = value(line, p * 16, 16);
-        p += 1;
+    for (p, w) in words.iter_mut().enumerate() {
+        *w = value(&line[p * 16..p * 16 + 16]);
     }
 }
 
 // The whole line is tested before a word is written.
-pub fn read_row(columns: u64, line: &[u8], words: &mut [u64]) -> Answer
+pub fn read_row(columns: u64, line: &[u8], words: &mut [u64]) -> Result<(), Reason>
     ensures { (word result, words.new) ≡ read_row_means columns line.now words.old }
 {
-    let f = readable(columns, line, words.len());
-    if word(f) != 0 {
-        return f;
-    }
+    readable(columns, line, words.len())?;
     read_words(line, words);
-    Answer::Done
+    Ok(())
 }
 
 // What is wrong with n words to be written into m bytes.
-fn writable(columns: u64, n: usize, m: usize) -> Answer
+fn writable(columns: u64, n: usize, m: usize) -> Result<(), Reason>
     ensures { word result ≡ first (write_row_tests columns n m) }
 {
-    if columns > 1024 {
-        return Answer::Refused(Reason::TooLarge);
+    let w = words_of_row(columns)?;
+    if n != w || m != w * 16 + 1 {
+        return Err(Reason::LengthWrong);
     }
-    let w = 2 * planes(columns as usize);
-    if n != w {
-        return Answer::Refused(Reason::LengthWrong);
-    }
-    if m != w * 16 + 1 {
-        return Answer::Refused(Reason::LengthWrong);
-    }
-    Answer::Done
+    Ok(())
 }
 
-// The digits of all words, and byte 10.
+// The digits of all words, and byte 10: one by one, since hexadecimal's put ends each number with byte 10.
 fn write_words(words: &[u64], line: &mut [u8])
     requires { (length words.now ≤ 32) × (length line.old ≡ length words.now * 16 + 1) }
     ensures { line.new ≡ line_of (length words.now) words.now }
 {
     let n = words.len() * 16;
-    let mut k = 0;
-    while k < n {
-        let t = (15 - k % 16) as u64;
+    for k in 0..n {
+        let t = 15 - k % 16;
         line[k] = byte_of((words[k / 16] >> (4 * t)) % 16);
-        k += 1;
     }
-    line[n] = 10;
+    line[n] = b'\n';
 }
 
-pub fn write_row(columns: u64, words: &[u64], line: &mut [u8]) -> Answer
+pub fn write_row(columns: u64, words: &[u64], line: &mut [u8]) -> Result<(), Reason>
     ensures { (word result, line.new) ≡ write_row_means columns words.now line.old }
 {
-    let f = writable(columns, words.len(), line.len());
-    if word(f) != 0 {
-        return f;
-    }
+    writable(columns, words.len(), line.len())?;
     write_words(words, line);
-    Answer::Done
+    Ok(())
 }

@@ -1,33 +1,22 @@
 // One hexadecimal digit: a byte's value, and a value's byte. Letters are small alone.
-ghost use Rattle.std.specs.Prelude.{◌≡◌, ◌<◌};
+ghost use Rattle.std.specs.Prelude.{◌≡◌, ◌<◌, MatchOption};
 ghost use Rattle.hexadecimal.specs.Digit.{digit_of, byte_of};
 
-// The value of a byte, and 16 where it is no digit.
-pub fn digit_of(b: u8) -> u64
-    ensures { result ≡ digit_of b }
+// The value of a byte, where it is a digit.
+pub fn digit_of(b: u8) -> Option<u64>
+    ensures { MatchOption result (digit_of b ≡ 16) (λ d. (d ≡ digit_of b) × (d < 16)) }
 {
-    let v = b as u64;
-    if v < 48 {
-        return 16;
+    match b {
+        b'0'..=b'9' => Some(u64::from(b - b'0')),
+        b'a'..=b'f' => Some(u64::from(b - b'a') + 10),
+        _ => None,
     }
-    if v < 58 {
-        return v - 48;
-    }
-    if v < 97 {
-        return 16;
-    }
-    if v < 103 {
-        return v - 87;
-    }
-    16
 }
 
 pub fn byte_of(d: u64) -> u8
     requires { d < 16 }
     ensures { result ≡ byte_of d }
 {
-    if d < 10 {
-        return (48 + d) as u8;
-    }
-    (87 + d) as u8
+    let d = d as u8;
+    if d < 10 { b'0' + d } else { b'a' + (d - 10) }
 }

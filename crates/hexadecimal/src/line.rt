@@ -5,19 +5,11 @@ ghost use Rattle.hexadecimal.specs.Line.{hex_of, value_of, undigit, unframed};
 
 use super::digit::{byte_of, digit_of};
 
-// One of the first n bytes is no digit.
-pub fn undigit(line: &[u8], n: usize) -> bool
-    requires { n ≤ length line.now }
-    ensures { result ≡ undigit line.now n }
+// One of the bytes is no digit.
+pub fn undigit(bytes: &[u8]) -> bool
+    ensures { result ≡ undigit bytes.now (length bytes.now) }
 {
-    let mut k = 0;
-    while k < n {
-        if digit_of(line[k]) > 15 {
-            return true;
-        }
-        k += 1;
-    }
-    false
+    bytes.iter().any(|b| digit_of(*b).is_none())
 }
 
 // The line is not exactly n digits and then byte 10.
@@ -25,39 +17,28 @@ pub fn unframed(line: &[u8], n: usize) -> bool
     requires { n ≤ 512 }
     ensures { result ≡ unframed line.now n }
 {
-    if line.len() != n + 1 {
-        return true;
-    }
-    if undigit(line, n) {
-        return true;
-    }
-    line[n] != 10
+    line.len() != n + 1 || undigit(&line[..n]) || line[n] != b'\n'
 }
 
-// The number that the n digits from place x on say.
-pub fn value(line: &[u8], x: usize, n: usize) -> u64
-    requires { (n ≤ 16) × (x + n ≤ length line.now) × ((k : ℕ) → k < n → digit_of (get_or line.now (x + k) 0) < 16) }
-    ensures { result ≡ value_of line.now x n }
+// The number that the digits say.
+pub fn value(digits: &[u8]) -> u64
+    requires { (length digits.now ≤ 16) × ((k : ℕ) → k < length digits.now → digit_of (get_or digits.now k 0) < 16) }
+    ensures { result ≡ value_of digits.now 0 (length digits.now) }
 {
     let mut v: u64 = 0;
-    let mut k = 0;
-    while k < n {
-        v = 16 * v + digit_of(line[x + k]);
-        k += 1;
+    for b in digits {
+        v = 16 * v + digit_of(*b).unwrap();
     }
     v
 }
 
-// The n digits of v, and byte 10.
+// The n digits of v, and byte 10. The line has n + 1 bytes; n stands beside it since a call that says how many digits it writes is plainer.
 pub fn put(v: u64, n: usize, line: &mut [u8])
     requires { (n ≤ 16) × (length line.old ≡ n + 1) }
     ensures { line.new ≡ hex_of n v ++ (10 ∷ []) }
 {
-    let mut k = 0;
-    while k < n {
-        let t = (n - 1 - k) as u64;
-        line[k] = byte_of((v >> (4 * t)) % 16);
-        k += 1;
+    for k in 0..n {
+        line[k] = byte_of((v >> (4 * (n - 1 - k))) % 16);
     }
-    line[n] = 10;
+    line[n] = b'\n';
 }

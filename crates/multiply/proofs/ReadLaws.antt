@@ -2,7 +2,7 @@
 use mathlib.Core.Path.{◌≡◌, refl, sym, ap, ◌∙◌}
 use mathlib.Core.Bool.{Bool, true, false}
 use mathlib.Core.List.{List, [], ◌++◌, append-nil}
-use Prim.Native.Nat.{ℕ, ◌+◌, ◌-◌, ◌≤◌, ◌<◌}
+use Prim.Native.Nat.{ℕ, ◌-◌, ◌≤◌, ◌<◌}
 use native.Mathlib.Decide.{dec_lt}
 use native.Mathlib.Omega.{arith}
 use lib.ListN.{length, take}
@@ -23,24 +23,6 @@ pub record Goes (buffer : List ℕ) (bytes last : ℕ) : Type 0 where
 
 pub goes_none : (buffer : List ℕ) → Goes buffer 0 0
 goes_none buffer = record { within = omega arith; part = omega arith; before = stops_none; after = stops_none }
-
--- the room is full
-pub goes_full : (buffer : List ℕ) (bytes last : ℕ) → Goes buffer bytes last → length buffer ≤ bytes → Reads buffer bytes last
-goes_full buffer bytes last G full = record { within = G.within; part = G.part; before = G.before; ended = λ e l. absurd (omega arith) }
-
-module _ (old new : List ℕ) (bytes last more : ℕ) (G : Goes old bytes last) (room : bytes + more ≤ length new) (same : take bytes new ≡ take bytes old) where
-  before_is : stops (take (bytes + more - more) new) ≡ false
-  before_is =
-      let e : bytes + more - more ≡ bytes = omega arith in
-      ap (λ (n : ℕ). stops (take n new)) e ∙ ap stops same ∙ G.after
-
-  -- nothing came, or a fault
-  pub read_ends : (stops (take (bytes + more) new) ≡ false → more ≡ 0) → Reads new (bytes + more) more
-  read_ends h = record { within = room; part = omega arith; before = before_is; ended = λ e l. h e }
-
-  -- or bytes without a fault
-  pub read_goes : stops (take (bytes + more) new) ≡ false → Goes new (bytes + more) more
-  read_goes e = record { within = room; part = omega arith; before = before_is; after = e }
 
 -- ---- what is printed
 

@@ -11,12 +11,9 @@ use texts::multiply::multiply;
 // Two matrices of 128 rows and 128 columns take 16,658 bytes; one byte more is read, so that longer input is seen to be longer and input
 // without an end gets its answer. No answer is longer than 8,338 bytes.
 fn main(rt: HostRuntime) -> io::Result<()> {
-    let mut input = [0u8; 16659];
-    let mut stdin = rt.stdin();
-    let read = read_text(&mut stdin, &mut input);
-    let n = read.bytes;
-    let mut output = [0u8; 8338];
-    let m = multiply(&input[..n], &mut output);
-    let mut stdout = rt.stdout();
-    stdout.write_all(&output[..m])
+    let mut input = [0; 16659];
+    let mut output = [0; 8338];
+    let read = read_text(&mut rt.stdin(), &mut input);
+    let written = multiply(&input[..read.bytes], &mut output);
+    rt.stdout().write_all(&output[..written])
 }

@@ -1,10 +1,10 @@
 -- A, then B, then the end of a text. Assumes nothing.
-use mathlib.Core.Path.{◌≡◌, sym, ap, ap₂, ◌∙◌}
+use mathlib.Core.Path.{◌≡◌, sym, ap, ◌∙◌}
 use mathlib.Core.List.{List, [], ◌∷◌, ◌++◌}
-use Prim.Native.Nat.{ℕ, ◌-◌, ◌<◌}
+use Prim.Native.Nat.{ℕ, ◌<◌}
 use native.Mathlib.Omega.{arith}
 use lib.Dec.{ltb}
-use lib.ListN.{length, take, drop, length-drop}
+use lib.ListN.{length, take, drop}
 use borrow.Author.Tests.{lt-ltb, le-ltb}
 use Rattle.buffers.specs.Buffer.{words}
 use Rattle.requests.specs.declared.Size.{Size}
@@ -51,28 +51,22 @@ pub words_in_long : (text : List ℕ) → length (words_in text) ≡ words (size
 unfolding words_in words
 words_in_long text = words_long (size_in text).rows (size_in text).columns (drop 9 text)
 
-front : (text : List ℕ) (start r c end : ℕ) (old new : List ℕ) → Found text start r c end old new → take (words r c) new ≡ words_in (drop start text)
-front text start r c end old new F =
-    rw F.words_are (laid_front (words_in (drop start text)) old (words r c) (words_in_long (drop start text) ∙ ap₂ words (sym F.rows_is) (sym F.columns_is)))
+front : (text : List ℕ) (s : Size) (rest old new : List ℕ) → Found text s rest old new → take (words s.rows s.columns) new ≡ words_in text
+front text s rest old new F =
+    rw F.words_are (laid_front (words_in text) old (words s.rows s.columns) (words_in_long text ∙ ap (λ (s : Size). words s.rows s.columns) (sym F.size_is)))
 
-abbrev size : ℕ → ℕ → Size
-size r c = record { rows = r; columns = c }
+module _ (text : List ℕ) (x y : Size) (second rest a a₁ b b₁ : List ℕ) (F : Found text x second a a₁) (G : Found second y rest b b₁) where
+  pub last_is : rest ≡ rest_of (rest_of text)
+  last_is = G.rest_is ∙ ap rest_of F.rest_is
 
-size_is : (text : List ℕ) (start r c end : ℕ) (old new : List ℕ) → Found text start r c end old new → ◌≡◌ {A = Size} (record { rows = r; columns = c }) (size_in (drop start text))
-size_is text start r c end old new F = ap₂ (λ (r c : ℕ). size r c) F.rows_is F.columns_is
-
-module _ (text : List ℕ) (r₁ c₁ e₁ r₂ c₂ e₂ : ℕ) (a a₁ b b₁ : List ℕ) (F : Found text 0 r₁ c₁ e₁ a a₁) (G : Found text e₁ r₂ c₂ e₂ b b₁) where
-  pub rest_length : length (rest_of (rest_of text)) ≡ length text - e₂
-  rest_length = ap (λ (t : List ℕ). length (rest_of t)) (sym F.rest) ∙ ap length (sym G.rest) ∙ length-drop e₂ text
-
-  pub matrices_are : Matrices text (record { rows = r₁; columns = c₁ }) (record { rows = r₂; columns = c₂ }) a₁ b₁
+  pub matrices_are : Matrices text x y a₁ b₁
   matrices_are = record {
-    x_is = size_is text 0 r₁ c₁ e₁ a a₁ F;
-    y_is = size_is text e₁ r₂ c₂ e₂ b b₁ G ∙ ap size_in F.rest;
+    x_is = F.size_is;
+    y_is = G.size_is ∙ ap size_in F.rest_is;
     x_rows = F.few;
     x_columns = F.narrow;
     y_rows = G.few;
     y_columns = G.narrow;
-    a_is = front text 0 r₁ c₁ e₁ a a₁ F;
-    b_is = front text e₁ r₂ c₂ e₂ b b₁ G ∙ ap words_in F.rest;
+    a_is = front text x second a a₁ F;
+    b_is = front second y rest b b₁ G ∙ ap words_in F.rest_is;
   }

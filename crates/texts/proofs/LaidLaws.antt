@@ -5,17 +5,13 @@ use mathlib.Core.List.{List, [], ◌∷◌, ◌++◌, append_assoc, append-nil}
 use Prim.Native.Nat.{ℕ, zero, suc, ◌+◌, ◌*◌, ◌≤◌, ◌<◌}
 use native.Mathlib.Omega.{arith}
 use lib.Dec.{ltb}
-use lib.ListN.{length, take, drop, set, length-append, length-drop, drop_of_length-le}
+use lib.ListN.{length, take, drop, length-append, drop_of_length-le}
 use lib.Seq.{take_at, drop_at, drop-drop}
 use borrow.Author.Tests.{lt-ltb, le-ltb}
 use Rattle.buffers.specs.Buffer.{tab, joined}
 use Rattle.buffers.proofs.BufferLaws.{length_joined}
 use Rattle.hexadecimal.specs.Line.{hex_of}
 use Rattle.texts.specs.Multiply.{refusal, laid, placed}
-
-pub laid_length : (text out : List ℕ) → length text ≤ length out → length (laid text out) ≡ length out
-unfolding laid
-laid_length text out h = length-append text (drop (length text) out) ∙ omega (arith, length-drop (length text) out)
 
 pub laid_all : (text out : List ℕ) → length text ≡ length out → laid text out ≡ text
 unfolding laid
@@ -61,30 +57,11 @@ cramped text out h = rw (lt-ltb (length out) (length text) h)
 abbrev pub refused_word : List ℕ
 refused_word = 114 ∷ 101 ∷ 102 ∷ 117 ∷ 115 ∷ 101 ∷ 100 ∷ 32 ∷ []
 
--- eight bytes, one after another
-pub eight : (out : List ℕ) → 8 ≤ length out → set (set (set (set (set (set (set (set out 0 114) 1 101) 2 102) 3 117) 4 115) 5 101) 6 100) 7 32 ≡ laid refused_word out
-unfolding laid
-eight [] h = absurd (omega arith)
-eight (_ ∷ []) h = absurd (omega arith)
-eight (_ ∷ _ ∷ []) h = absurd (omega arith)
-eight (_ ∷ _ ∷ _ ∷ []) h = absurd (omega arith)
-eight (_ ∷ _ ∷ _ ∷ _ ∷ []) h = absurd (omega arith)
-eight (_ ∷ _ ∷ _ ∷ _ ∷ _ ∷ []) h = absurd (omega arith)
-eight (_ ∷ _ ∷ _ ∷ _ ∷ _ ∷ _ ∷ []) h = absurd (omega arith)
-eight (_ ∷ _ ∷ _ ∷ _ ∷ _ ∷ _ ∷ _ ∷ []) h = absurd (omega arith)
-eight (_ ∷ _ ∷ _ ∷ _ ∷ _ ∷ _ ∷ _ ∷ _ ∷ rest) h = refl
-
-abbrev eighth : List ℕ → List ℕ
-eighth out = set (set (set (set (set (set (set (set out 0 114) 1 101) 2 102) 3 117) 4 115) 5 101) 6 100) 7 32
-
-pub eightlong : (out : List ℕ) → 8 ≤ length out → length (eighth out) ≡ length out
-eightlong out h = ap length (eight out h) ∙ laid_length refused_word out h
-
 pub refusal_long : (n : ℕ) → length (refusal n) ≡ 11
 unfolding refusal hex_of tab
 refusal_long n = refl
 
 -- the eight bytes, and then a line of two digits
-pub refusal_laid : (n : ℕ) (out line : List ℕ) → 8 ≤ length out → line ≡ hex_of 2 n ++ (10 ∷ []) → take 8 (eighth out) ++ (line ++ drop 3 (drop 8 (eighth out))) ≡ laid (refusal n) out
+pub refusal_laid : (n : ℕ) (out line : List ℕ) → line ≡ hex_of 2 n ++ (10 ∷ []) → take 8 (laid refused_word out) ++ (line ++ drop 3 (drop 8 (laid refused_word out))) ≡ laid (refusal n) out
 unfolding refusal hex_of tab
-refusal_laid n out line h e = rw (eight out h) (laid_more refused_word line out 8 3 refl (ap length e)) ∙ ap (λ (l : List ℕ). laid (refused_word ++ l) out) e
+refusal_laid n out line e = laid_more refused_word line out 8 3 refl (ap length e) ∙ ap (λ (l : List ℕ). laid (refused_word ++ l) out) e

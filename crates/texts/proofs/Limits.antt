@@ -10,7 +10,7 @@ use lib.ListN.{length, take, drop}
 use lib.Seq.{take-take, drop-drop, take-nil}
 use borrow.Author.Tests.{lt-ltb, ltb-false}
 use Rattle.cells.proofs.AnyLaws.{or_left, or_right, any_cong}
-use Rattle.buffers.specs.Buffer.{planes, wide, joined, cell, encode}
+use Rattle.buffers.specs.Buffer.{wide, joined, cell, encode}
 use Rattle.requests.specs.declared.Size.{Size}
 use Rattle.requests.specs.Answers.{Tests, first}
 use Rattle.requests.proofs.AnswerLaws.{append_given, append_none, append_front, append_same, first_none}
@@ -22,7 +22,7 @@ use Rattle.matrix.specs.Job.{meant, product_size, total_of}
 use Rattle.texts.specs.MatrixText.{line_at, misread, words_read, size_in, words_in, rest_of, above, head_tests, matrix_tests}
 use Rattle.texts.specs.Multiply.{form_tests, product_tests, multiply_tests, refusal, product_text, answer_text, multiply_text}
 use Rattle.texts.proofs.LaidLaws.{refusal_long}
-use Rattle.texts.proofs.TextLaws.{same_size, same_head, few_words}
+use Rattle.texts.proofs.TextLaws.{same_size, same_head, limit_lines}
 use Rattle.texts.proofs.FramesLaws.{frames_long}
 use Rattle.texts.proofs.MultiplyLaws.{form_refused}
 
@@ -46,10 +46,6 @@ joined_cong : (n : ℕ) (f g : ℕ → List ℕ) → ((i : ℕ) → i < n → f 
 unfolding joined
 joined_cong zero f g h = refl
 joined_cong (suc n) f g h = ap₂ ◌++◌ (h 0 (omega arith)) (joined_cong n (λ i. f (suc i)) (λ i. g (suc i)) (λ i l. h (suc i) (omega arith)))
-
-lines_short : (r c : ℕ) → r ≤ 128 → c ≤ 128 → r * line_long c ≤ 8320
-unfolding line_long wide
-lines_short r c h k = (few_words r c (planes c) h k refl).2
 
 -- ---- a matrix at the beginning of a text that is cut after n bytes
 
@@ -77,7 +73,7 @@ module _ (text : List ℕ) where
   narrow h = ltb-false 128 c (or_right (ltb 128 r) (ltb 128 c) (none_above h))
 
   short : first (head_tests text) ≡ 0 → taken ≤ 8329
-  short h = omega (arith, lines_short r c (few h) (narrow h))
+  short h = omega (arith, limit_lines r c (few h) (narrow h))
 
   module _ (n : ℕ) (room : 8329 ≤ n) where
     head_same : take 9 (take n text) ≡ take 9 text
@@ -206,6 +202,6 @@ prints_little text = go (first (multiply_tests text)) refl
     go : (k : ℕ) → first (multiply_tests text) ≡ k → length (answer_text k (product_text (size_in text) (size_in (rest_of text)) (words_in text) (words_in (rest_of text)))) ≤ 8338
     go zero e =
         let h = form_passes text e in
-        let d = lines_short (size_in text).rows (size_in (rest_of text)).columns (few text (first_passes text h)) (narrow (rest_of text) (second_passes text h)) in
+        let d = limit_lines (size_in text).rows (size_in (rest_of text)).columns (few text (first_passes text h)) (narrow (rest_of text) (second_passes text h)) in
         omega (arith, d, frames_long (product_size (size_in text) (size_in (rest_of text))) (encode (size_in text).rows (size_in (rest_of text)).columns (schoolbook (size_in text).columns (cell (size_in text).columns (words_in text)) (cell (size_in (rest_of text)).columns (words_in (rest_of text))))) (total_of (size_in text) (meant (size_in text) 0) (words_in text)))
     go (suc k) e = omega (arith, refusal_long (suc k))

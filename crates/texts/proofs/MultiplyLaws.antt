@@ -8,8 +8,9 @@ use lib.Dec.{ltb}
 use lib.ListN.{length, drop, length-append}
 use Rattle.buffers.specs.Buffer.{cell, encode}
 use Rattle.requests.specs.declared.Size.{Size}
-use Rattle.requests.specs.Answers.{first}
+use Rattle.requests.specs.Answers.{number_in, first}
 use Rattle.requests.proofs.AnswerLaws.{append_given, append_none}
+use Rattle.requests.proofs.NumberLaws.{first_number}
 use Rattle.steps.specs.Matrix.{schoolbook}
 use Rattle.matrix.specs.Job.{meant, product_size, total_of}
 use Rattle.frames.specs.Header.{read_header_tests}
@@ -28,6 +29,11 @@ refusal_printed text out (suc n) ne e = rw (← e)
 pub form_refused : (text : List ℕ) (n : ℕ) → (n ≡ 0 → ⊥) → n ≡ first (form_tests text) → n ≡ first (multiply_tests text)
 unfolding multiply_tests
 form_refused text n ne e = e ∙ sym (append_given (form_tests text) _ (λ z. ne (e ∙ z)))
+
+-- the words of a text's faults are numbers
+pub form_number : (text : List ℕ) → number_in (first (form_tests text)) ≡ first (form_tests text)
+unfolding form_tests matrix_tests head_tests read_header_tests
+form_number text = first_number (form_tests text)
 
 module _ (text : List ℕ) (x y : Size) (a b : List ℕ) (form : 0 ≡ first (form_tests text)) (ex : x ≡ size_in text) (ey : y ≡ size_in (rest_of text)) (ea : a ≡ words_in text) (eb : b ≡ words_in (rest_of text)) where
   pub multiply_tests_lem : first (product_tests x y a b) ≡ first (multiply_tests text)

@@ -1,23 +1,24 @@
 -- Where the reading stops: the definition's laws, and the code's way through it. Assumes nothing.
-use mathlib.Core.Path.{◌≡◌, refl, sym, ap, ap₂, ◌∙◌}
-use mathlib.Core.Bool.{Bool, true, false, ◌||◌}
+use mathlib.Core.Path.{◌≡◌, refl, sym, ap, ◌∙◌}
+use mathlib.Core.Bool.{Bool, true, false, not, ◌||◌}
 use mathlib.Core.List.{List, []}
 use Prim.Native.Nat.{ℕ, zero, suc, ◌+◌, ◌-◌, ◌*◌, ◌≤◌, ◌<◌}
-use native.Mathlib.Decide.{dec_lt}
 use native.Mathlib.Omega.{arith}
-use lib.Dec.{ltb}
+use lib.Dec.{ltb, eqb}
+use Rattle.std.specs.Prelude.{Option, None, Some, MatchOption}
+use Rattle.std.specs.Borrow.{Bor}
 use lib.ListN.{length, take, drop, length-drop, drop_of_length-le}
-use lib.Seq.{drop-nil, drop-drop, take_all}
-use borrow.Author.Tests.{lt-ltb, le-ltb}
+use lib.Seq.{drop-nil}
+use borrow.Author.Tests.{lt-ltb, le-ltb, ne_eqb}
 use Rattle.cells.specs.Any.{any}
 use Rattle.cells.proofs.AnyLaws.{or_yes, any_none, any_next, any_found}
-use Rattle.buffers.specs.Buffer.{planes, wide}
+use Rattle.buffers.specs.Buffer.{wide}
 use Rattle.requests.specs.Answers.{first}
 use Rattle.hexadecimal.specs.Line.{undigit, unframed}
 use Rattle.frames.specs.RowLine.{line_long}
 use Rattle.texts.specs.MatrixText.{line_at, size_in, rest_of, head_tests, size_means}
 use Rattle.texts.specs.Stops.{line_stops, head_stops, row_stops, rows_stop, matrix_stops, stops}
-use Rattle.texts.proofs.TextLaws.{head_is, head_size, rest_is}
+use Rattle.texts.proofs.TextLaws.{head_is, head_size}
 
 -- ---- one line, of n digits and byte 10
 
@@ -63,14 +64,13 @@ stops_none = rw (rest_none, rest_none, matrix_none)
 
 -- ---- the code's way
 
-pub part_all : (text : List ℕ) (at : ℕ) → undigit (take (length text - at) (drop at text)) (length text - at) ≡ undigit (drop at text) (length (drop at text))
-part_all text at = ap₂ (λ (t : List ℕ) (n : ℕ). undigit t n) (take_all (length text - at) (drop at text) (omega (arith, length-drop at text))) (sym (length-drop at text))
-
 -- a line that was looked at, as the code has it
-pub row_seen : (c : ℕ) (text : List ℕ) (start i q at : ℕ) (b : Bool) → q ≡ planes c → drop at text ≡ drop (start + i * (2 * q * 16 + 1)) text
-    → b ≡ line_stops (2 * q * 16 + 1) (unframed (take (2 * q * 16 + 1) (drop at text)) (2 * q * 16)) (drop at text) → b ≡ row_stops c (drop (i * line_long c) (drop start text))
-unfolding row_stops line_long wide
-row_seen c text start i q at b e f h = rw (← e, drop-drop (i * (2 * q * 16 + 1)) start text, ← f) h
+pub row_seen : (c : ℕ) (text at : List ℕ) (i line : ℕ) (b : Bool) → line ≡ line_long c → at ≡ drop (i * line) text → b ≡ line_stops (line - 1 + 1) (unframed (take (line - 1 + 1) at) (line - 1)) at
+    → b ≡ row_stops c (drop (i * line_long c) text)
+unfolding row_stops line_long
+row_seen c text at i line b e f h =
+    let n : line - 1 ≡ wide c * 16 = omega (arith, e) in
+    h ∙ rw (f, n, e)
 
 pub rows_none : (c : ℕ) (text : List ℕ) → rows_stop 0 c text ≡ false
 unfolding rows_stop any
@@ -142,33 +142,20 @@ module _ (text : List ℕ) where
         let e : ltb 0 (first (head_tests text)) ≡ false = le-ltb 0 (first (head_tests text)) (omega (arith, head_is text n r c says)) in
         rw (le-ltb (length text) 9 room, e) (ap (λ (o : ℕ × ℕ). rows_stop o.0 o.1 (drop 9 text)) (head_size text n r c says ok))
 
--- where what comes after the matrix begins
-pub seen_rest : (text : List ℕ) (start n r c q end : ℕ) → ◌≡◌ {A = ℕ × (ℕ × ℕ)} (n, (r, c)) (size_means (drop start text)) → n ≡ 0 → q ≡ planes c → drop end text ≡ drop (start + 9 + r * (2 * q * 16 + 1)) text
-    → drop end text ≡ rest_of (drop start text)
-unfolding line_long wide
-seen_rest text start n r c q end says ok e f =
-    let d : start + 9 + r * (2 * q * 16 + 1) ≡ start + (9 + r * (2 * planes c * 16 + 1)) = ap (λ (p : ℕ). start + 9 + r * (2 * p * 16 + 1)) e ∙ omega arith in
-    f ∙ ap (λ (k : ℕ). drop k text) d ∙ sym (drop-drop (9 + r * line_long c) start text) ∙ sym (rest_is (drop start text) n r c says ok)
-
 -- ---- the whole text that was looked at
 
-module _ (text : List ℕ) (a : Bool) (first : a ≡ matrix_stops text) where
-  pub stops_first : a ≡ true → true ≡ stops text
-  stops_first h = sym (bad_first text (sym first ∙ h))
+not_empty : (n : ℕ) → not (eqb n 0) ≡ ltb 0 n
+not_empty zero = refl
+not_empty (suc n) = rw (ne_eqb (suc n) 0 (λ z. omega arith), lt-ltb 0 (suc n) (omega arith))
 
-  module _ (none : a ≡ false) (end : ℕ) (rest : drop end text ≡ rest_of text) (b : Bool) (second : b ≡ matrix_stops (drop end text)) where
-    second_is : matrix_stops (rest_of text) ≡ b
-    second_is = sym (second ∙ ap matrix_stops rest)
+-- what comes after a matrix, where it does not stop the reading
+abbrev pub Past : List ℕ → Option (Bor (List ℕ)) → Type 0
+Past text a = MatchOption a (matrix_stops text ≡ true) (λ rest. (matrix_stops text ≡ false) × (rest.now ≡ rest_of text))
 
-    pub stops_second : b ≡ true → true ≡ stops text
-    stops_second h = sym (bad_second text (second_is ∙ h))
-
-    pub stops_end : b ≡ false → (e : ℕ) → drop e text ≡ rest_of (drop end text) → ltb e (length text) ≡ stops text
-    unfolding stops
-    stops_end h e f =
-        let d : length (rest_of (rest_of text)) ≡ length text - e = ap (λ (t : List ℕ). length (rest_of t)) (sym rest) ∙ ap length (sym f) ∙ length-drop e text in
-        rw (← first, none, second_is, h, d) (go (dec_lt e (length text)))
-      where
-        go : Dec (e < length text) → ltb e (length text) ≡ ltb 0 (length text - e)
-        go (yes l) = lt-ltb e (length text) l ∙ sym (lt-ltb 0 (length text - e) (omega arith))
-        go (no l) = le-ltb e (length text) (omega arith) ∙ sym (le-ltb 0 (length text - e) (omega arith))
+pub past_both : (text : List ℕ) (a b : Option (Bor (List ℕ))) → Past text a → MatchOption a (b ≡ None) (λ second. Past second.now b)
+    → MatchOption b (true ≡ stops text) (λ rest. not (eqb (length rest.now) 0) ≡ stops text)
+unfolding stops
+past_both text None None h k = sym (bad_first text h)
+past_both text None (Some rest) h k = absurd (let z = k in cc)
+past_both text (Some second) None h k = sym (bad_second text (ap matrix_stops (sym h.1) ∙ k))
+past_both text (Some second) (Some rest) h k = rw (h.0, ← h.1, k.0, ← k.1) (not_empty (length rest.now))

@@ -1,21 +1,23 @@
 -- Matrices that are read out of a text. Assumes nothing.
 use mathlib.Core.Path.{◌≡◌, refl, sym, ap, ◌∙◌}
-use mathlib.Core.Bool.{Bool, true, false, true≢false, not, ◌||◌}
+use mathlib.Core.Bool.{Bool, true, false, ◌||◌}
 use mathlib.Core.List.{List, [], ◌∷◌, ◌++◌}
-use Prim.Native.Nat.{ℕ, suc, ◌+◌, ◌*◌, ◌^◌, ◌≤◌, ◌<◌}
+use Prim.Native.Nat.{ℕ, ◌+◌, ◌-◌, ◌*◌, ◌^◌, ◌≤◌, ◌<◌}
 use native.Mathlib.Nat.{suc-mul, mul-le-mul, mul-le-mul_right}
 use native.Mathlib.Omega.{arith}
-use lib.Dec.{ltb, eqb}
-use lib.ListN.{length, get_or, take, drop, length-append, length-take}
-use lib.Seq.{drop-drop}
+use lib.Dec.{ltb}
+use lib.ListN.{length, get_or, take, drop, length-append, length-take, length-drop}
+use lib.Seq.{take_all}
+use Rattle.std.specs.Prelude.{Result, Ok, Err, IfOk, IsOk}
+use Rattle.requests.specs.declared.Reason.{Reason}
 use borrow.Author.Tests.{ltb-false, le-ltb, ne_eqb, eq-eqb}
 use Rattle.cells.specs.Any.{any}
 use Rattle.cells.proofs.AnyLaws.{or_left, or_right, any_next, any_found}
 use Rattle.buffers.specs.Buffer.{planes, wide, words, joined}
-use Rattle.buffers.proofs.SizeLaws.{planes_le}
 use Rattle.buffers.proofs.BufferLaws.{length_tab, length_joined}
-use Rattle.requests.specs.Answers.{first, left, answered}
+use Rattle.requests.specs.Answers.{reason_word, word, first, left, answered}
 use Rattle.requests.proofs.AnswerLaws.{here, later, refused, finished, refusal_keeps, done_makes, append_given, append_none, first_none}
+use Rattle.requests.proofs.WordLaws.{some_reason}
 use Rattle.walk.proofs.CountLaws.{pow_small}
 use Rattle.hexadecimal.specs.Line.{hex_of, unframed}
 use Rattle.hexadecimal.proofs.HexLaws.{framed}
@@ -85,27 +87,51 @@ module _ (s t : List ℕ) (e : take 9 s ≡ take 9 t) where
 
 -- what a line that was read says
 pub row_read : (c : ℕ) (line ws new : List ℕ) (n : ℕ) → c ≤ 1024 → length ws ≡ wide c → ◌≡◌ {A = ℕ × List ℕ} (n, new) (read_row_means c line ws)
-    → (not (eqb n 0) ≡ unframed line (wide c * 16)) × (not (eqb n 0) ≡ false → new ≡ words_of (wide c) line)
+    → (n ≡ first ((unframed line (wide c * 16), 10) ∷ [])) × (n ≡ 0 → new ≡ words_of (wide c) line)
 unfolding read_row_means read_row_tests answered left first
 row_read c line ws new n small size says =
     go (unframed line (wide c * 16)) (rw (le-ltb 1024 c small, eq-eqb (length ws) (wide c) size) at says)
   where
-    go : (t : Bool) → ◌≡◌ {A = ℕ × List ℕ} (n, new) (first ((t, 10) ∷ []), left (first ((t, 10) ∷ [])) ws (words_of (wide c) line)) → (not (eqb n 0) ≡ t) × (not (eqb n 0) ≡ false → new ≡ words_of (wide c) line)
-    go true e =
-        let z : n ≡ 10 = ap (λ (o : ℕ × List ℕ). o.0) e in
-        (rw z, λ f. absurd (true≢false (rw z at f)))
-    go false e = (rw (ap (λ (o : ℕ × List ℕ). o.0) e), λ f. ap (λ (o : ℕ × List ℕ). o.1) e)
+    go : (t : Bool) → ◌≡◌ {A = ℕ × List ℕ} (n, new) (first ((t, 10) ∷ []), left (first ((t, 10) ∷ [])) ws (words_of (wide c) line)) → (n ≡ first ((t, 10) ∷ [])) × (n ≡ 0 → new ≡ words_of (wide c) line)
+    go true e = (ap (λ (o : ℕ × List ℕ). o.0) e, λ z. absurd (let y : n ≡ 10 = ap (λ (o : ℕ × List ℕ). o.0) e in omega arith))
+    go false e = (ap (λ (o : ℕ × List ℕ). o.0) e, λ z. ap (λ (o : ℕ × List ℕ). o.1) e)
 
-pub line_at_lem : (c : ℕ) (text : List ℕ) (start i : ℕ) → line_at c (drop start text) i ≡ take (line_long c) (drop (start + i * line_long c) text)
+-- an answer of no frame, by the one test that says so
+pub no_frame : (t : Bool) (r : Reason) → reason_word r ≡ first ((t, 10) ∷ []) → t ≡ true
+unfolding first
+no_frame true r e = refl
+no_frame false r e = absurd (some_reason r e)
+
+pub frame : (t : Bool) → 0 ≡ first ((t, 10) ∷ []) → t ≡ false
+unfolding first
+frame true e = absurd (omega arith)
+frame false e = refl
+
+pub no_fault : (t : Bool) → t ≡ false → 0 ≡ first ((t, 10) ∷ [])
+unfolding first
+no_fault t e = rw e
+
+-- what holds where an answer's word is 0
+pub done_so : {T : Type 0} (a : Result T Reason) (P : Type 0) → (word a ≡ 0 → P) → IfOk a (λ x. P)
+done_so (Ok x) P h = h refl
+done_so (Err r) P h = tt
+
+pub done_ok : {T : Type 0} (a : Result T Reason) → word a ≡ 0 → IsOk a
+done_ok (Ok x) e = refl
+done_ok (Err r) e = absurd (some_reason r e)
+
+-- what is left of a text from a place on
+pub tail : (text : List ℕ) (n : ℕ) → n ≤ length text → take (length text - n) (drop n text) ≡ drop n text
+tail text n h = take_all (length text - n) (drop n text) (omega (arith, length-drop n text))
+
+pub part_long : (xs : List ℕ) (at k n : ℕ) → k ≡ n → at + n ≤ length xs → length (take k (drop at xs)) ≡ n
+part_long xs at k n e h = length-take k (drop at xs) ∙ omega (arith, e, length-drop at xs)
+
+-- line i, as the code has it
+pub line_is : (c : ℕ) (text : List ℕ) (i line : ℕ) → line ≡ line_long c → i * line ≤ length text → take (line_long c) (take (length text - i * line) (drop (i * line) text)) ≡ line_at c text i
 unfolding line_at
-line_at_lem c text start i = ap (λ (l : List ℕ). take (line_long c) l) (drop-drop (i * line_long c) start text)
-
--- the same, with the line's length as the code has it
-pub line_found : (c : ℕ) (text : List ℕ) (start i q line : ℕ) → q ≡ planes c → line ≡ 2 * q * 16 + 1 → line_at c (drop start text) i ≡ take line (drop (start + i * line) text)
-unfolding line_long wide
-line_found c text start i q line e f =
-    let h : line_long c ≡ line = ap (λ (p : ℕ). 2 * p * 16 + 1) (sym e) ∙ sym f in
-    rw h at (line_at_lem c text start i)
+line_is c text i line e h =
+    ap (λ (t : List ℕ). take (line_long c) t) (tail text (i * line) h) ∙ ap (λ (k : ℕ). take (line_long c) (drop (i * k) text)) e
 
 pub misread_none : (c : ℕ) (text : List ℕ) → misread 0 c text ≡ false
 unfolding misread any
@@ -170,16 +196,9 @@ module _ (text : List ℕ) (n r c : ℕ) (says : ◌≡◌ {A = ℕ × (ℕ × �
     unfolding above
     head_narrow = rw columns_say (ltb-false 128 (size_in text).columns (or_right (ltb 128 (size_in text).rows) _ not_above))
 
-    after_head : first (matrix_tests text) ≡ first ((misread r c (drop 9 text), 10) ∷ [])
+    pub after_head : first (matrix_tests text) ≡ first ((misread r c (drop 9 text), 10) ∷ [])
     unfolding matrix_tests head_tests read_header_tests
     after_head = append_none (head_tests text) _ tt (sym head_is ∙ ok) ∙ ap (λ (o : ℕ × ℕ). first ((misread o.0 o.1 (drop 9 text), 10) ∷ [])) (sym head_size)
-
-    pub rows_misread : misread r c (drop 9 text) ≡ true → 10 ≡ first (matrix_tests text)
-    rows_misread h = sym (after_head ∙ here _ 10 [] h)
-
-    pub rows_are : misread r c (drop 9 text) ≡ false → 0 ≡ first (matrix_tests text)
-    unfolding first
-    rows_are h = sym (after_head ∙ later _ 10 [] h)
 
     pub rest_is : rest_of text ≡ drop (9 + r * line_long c) text
     unfolding rest_of
@@ -189,12 +208,27 @@ module _ (text : List ℕ) (n r c : ℕ) (says : ◌≡◌ {A = ℕ × (ℕ × �
     unfolding words_in
     words_are = ap (λ (o : ℕ × ℕ). words_read o.0 o.1 (drop 9 text)) (sym head_size)
 
+-- ---- how many words and bytes there are
+
+-- one of r parts of one length lies within them
+pub part_within : (i r w : ℕ) → i < r → i * w + w ≤ r * w
+part_within i r w l = rw (← suc-mul i w) (mul-le-mul_right w l)
+
+pub row_room : (i r c w n : ℕ) → w ≡ wide c → n ≡ words r c → i < r → i * w + w ≤ n
+unfolding words
+row_room i r c w n e f l = rw (e, f) (part_within i r (wide c) l)
+
+pub line_room : (i r c line n : ℕ) → line ≡ line_long c → n ≡ r * line_long c → i < r → i * line + line ≤ n
+line_room i r c line n e f l = rw (e, f) (part_within i r (line_long c) l)
+
 -- within the limit
-pub few_words : (r c q : ℕ) → r ≤ 128 → c ≤ 128 → q ≡ planes c → (q ≤ 2) × (r * (2 * q) ≤ 512) × (r * (2 * q * 16 + 1) ≤ 8320)
-unfolding planes
-few_words r c q few narrow e =
-    let h : q ≤ 2 = omega arith in
-    (h, mul-le-mul {n₂ = 128} {m₂ = 4} few (omega arith), mul-le-mul {n₂ = 128} {m₂ = 65} few (omega arith))
+pub limit_words : (r c : ℕ) → r ≤ 128 → c ≤ 128 → r * wide c ≤ 512
+unfolding wide planes
+limit_words r c few narrow = mul-le-mul {n₂ = 128} {m₂ = 4} few (omega arith)
+
+pub limit_lines : (r c : ℕ) → r ≤ 128 → c ≤ 128 → r * line_long c ≤ 8320
+unfolding line_long wide planes
+limit_lines r c few narrow = mul-le-mul {n₂ = 128} {m₂ = 65} few (omega arith)
 
 -- a table of the widest default
 pub table_small : (k c : ℕ) → k ≤ 8 → c ≤ 128 → words (2 ^ k) c ≤ 1024
@@ -207,27 +241,18 @@ pub line_long_lem : (w : ℕ) (ws : List ℕ) → length (line_of w ws) ≡ w * 
 unfolding line_of
 line_long_lem w ws = length-append (joined w (λ p. hex_of 16 (get_or ws p 0))) (10 ∷ []) ∙ ap (λ (n : ℕ). n + 1) (length_joined w 16 _ (λ p. hex_length 16 (get_or ws p 0)))
 
-pub row_written : (c : ℕ) (ws line new : List ℕ) (n : ℕ) → c ≤ 1024 → length ws ≡ wide c → length line ≡ wide c * 16 + 1 → ◌≡◌ {A = ℕ × List ℕ} (n, new) (write_row_means c ws line) → new ≡ line_of (wide c) ws
+pub row_written : (c : ℕ) (ws line new : List ℕ) (n : ℕ) → c ≤ 1024 → length ws ≡ wide c → length line ≡ line_long c → ◌≡◌ {A = ℕ × List ℕ} (n, new) (write_row_means c ws line) → (n ≡ 0) × (new ≡ line_of (wide c) ws)
 unfolding write_row_means write_row_tests line_long answered left first
 row_written c ws line new n small size room says =
-    ap (λ (o : ℕ × List ℕ). o.1) (rw (le-ltb 1024 c small, eq-eqb (length ws) (wide c) size, eq-eqb (length line) (wide c * 16 + 1) room) at says)
+    let e = rw (le-ltb 1024 c small, eq-eqb (length ws) (wide c) size, eq-eqb (length line) (wide c * 16 + 1) room) at says in
+    (ap (λ (o : ℕ × List ℕ). o.0) e, ap (λ (o : ℕ × List ℕ). o.1) e)
 
 pub lines_long : (r c : ℕ) (ws : List ℕ) → length (lines_of r c ws) ≡ r * line_long c
 unfolding lines_of line_long
 lines_long r c ws = length_joined r (wide c * 16 + 1) _ (λ i. line_long_lem (wide c) _)
 
-pub lines_more : (c : ℕ) (ws : List ℕ) (i w line k : ℕ) (held old new : List ℕ) → w ≡ wide c → line ≡ w * 16 + 1 → k ≡ line → held ≡ laid (lines_of i c ws) old → new ≡ line_of (wide c) (take w (drop (i * w) ws))
+pub lines_more : (c : ℕ) (ws : List ℕ) (i w line k : ℕ) (held old new : List ℕ) → w ≡ wide c → line ≡ line_long c → k ≡ line → held ≡ laid (lines_of i c ws) old → new ≡ line_of (wide c) (take w (drop (i * w) ws))
     → take (i * line) held ++ (new ++ drop k (drop (i * line) held)) ≡ laid (lines_of (i + 1) c ws) old
-unfolding lines_of
+unfolding lines_of line_long
 lines_more c ws i w line k held old new e f d h g =
-    joined_laid (λ i. line_of (wide c) (take (wide c) (drop (i * wide c) ws))) i line k held old new (λ j. line_long_lem (wide c) _ ∙ ap (λ (n : ℕ). n * 16 + 1) (sym e) ∙ sym f) d h (rw e at g)
-
--- row i's line lies within all of them
-pub line_room : (r c i q n : ℕ) → q ≡ planes c → r ≤ 1024 → c ≤ 1024 → n ≡ r * line_long c → i < r
-    → (i * (2 * q * 16 + 1) + (2 * q * 16 + 1) ≤ n) × ((i + 1) * line_long c ≤ n) × (n ≤ 525312)
-unfolding line_long wide
-line_room r c i q n e few narrow f l =
-    let line : 2 * planes c * 16 + 1 ≤ 513 = omega (arith, planes_le c narrow) in
-    let d : suc i * (2 * planes c * 16 + 1) ≤ r * (2 * planes c * 16 + 1) = mul-le-mul_right (2 * planes c * 16 + 1) l in
-    let s : i + 1 ≡ suc i = omega arith in
-    (rw (e, ← suc-mul i (2 * planes c * 16 + 1), f) d, rw (s, f) d, rw f (mul-le-mul {n₂ = 1024} {m₂ = 513} few line))
+    joined_laid (λ i. line_of (wide c) (take (wide c) (drop (i * wide c) ws))) i line k held old new (λ j. line_long_lem (wide c) _ ∙ sym f) d h (rw e at g)

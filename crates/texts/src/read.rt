@@ -1,126 +1,61 @@
-// A matrix out of a text: its header line, then the lines of its rows.
-ghost use Rattle.std.specs.Prelude.{◌≡◌, false, ◌+◌, ◌*◌, ◌≤◌, ◌<◌, length, take, drop};
+// A matrix that a text begins with: its header line, then the lines of its rows.
+ghost use Rattle.std.specs.Prelude.{◌≡◌, [], ◌∷◌, ◌*◌, ◌≤◌, length, take, IfOk};
 ghost use Rattle.buffers.specs.Buffer.{wide, words};
 ghost use Rattle.requests.specs.Answers.{word, first};
 ghost use Rattle.hexadecimal.specs.Line.{unframed};
 ghost use Rattle.frames.specs.RowLine.{line_long, words_of};
-ghost use Rattle.texts.specs.MatrixText.{misread, words_read, above, size_means, matrix_tests};
-ghost use Rattle.texts.specs.Found.{Found};
+ghost use Rattle.texts.specs.MatrixText.{misread, words_read, size_means, matrix_tests};
+ghost use Rattle.texts.specs.Found.{size_told, Found};
 
-use buffers::planes::planes;
-use frames::header::{Header, read_header};
+use super::limit::Limited;
+use frames::header::read_header;
 use frames::row_line::read_row;
-use requests::{Answer, Reason, word};
+use requests::Reason;
 
-// An answer, the size that the header says, and the place in the text where what comes after the matrix begins.
-#[derive(Clone, Copy)]
-pub struct Taken {
-    pub answer: Answer,
-    pub rows: u64,
-    pub columns: u64,
-    pub end: usize,
+// The header line has nine bytes.
+pub fn size_in(text: &[u8]) -> Result<Limited, Reason>
+    ensures { size_told result ≡ size_means text.now }
+{
+    if text.len() < 9 {
+        return Err(Reason::NotAFrame);
+    }
+    let size = read_header(&text[..9])?;
+    Limited::try_from(size)
 }
 
-// Above the program's limit.
-fn above(rows: u64, columns: u64) -> bool
-    ensures { result ≡ above (record { rows = rows; columns = columns }) }
+// One line into the words of a row.
+fn row_in(text: &[u8], within: Limited, row: &mut [u64]) -> Result<(), Reason>
+    requires { length row.old ≡ wide within.size.columns }
+    ensures reason { word result ≡ first ((unframed (take (line_long within.size.columns) text.now) (wide within.size.columns * 16), 10) ∷ []) }
+    ensures done { IfOk result (λ _. (line_long within.size.columns ≤ length text.now) × (row.new ≡ words_of (wide within.size.columns) (take (line_long within.size.columns) text.now))) }
 {
-    if rows > 128 {
-        return true;
+    let line = within.line_long();
+    if text.len() < line {
+        return Err(Reason::NotAFrame);
     }
-    columns > 128
+    read_row(within.size.columns, &text[..line], row)
 }
 
-// The header line of nine bytes that stands at a place of the text.
-pub fn size_in(text: &[u8], start: usize) -> Header
-    requires { start ≤ length text.now }
-    ensures { (word result.answer, (result.rows, result.columns)) ≡ size_means (drop start text.now) }
+// The lines of all rows into their words.
+fn rows_in(text: &[u8], within: Limited, held: &mut [u64]) -> Result<(), Reason>
+    requires { length held.old ≡ words within.size.rows within.size.columns }
+    ensures reason { word result ≡ first ((misread within.size.rows within.size.columns text.now, 10) ∷ []) }
+    ensures done { IfOk result (λ _. (within.size.rows * line_long within.size.columns ≤ length text.now) × (held.new ≡ words_read within.size.rows within.size.columns text.now)) }
 {
-    let end = start + 9;
-    if end > text.len() {
-        return Header {
-            answer: Answer::Refused(Reason::NotAFrame),
-            rows: 0,
-            columns: 0,
-        };
+    let w = within.wide();
+    let line = within.line_long();
+    for i in 0..within.rows() {
+        row_in(&text[i * line..], within, &mut held[i * w..i * w + w])?;
     }
-    let h = read_header(&text[start..end]);
-    let f = h.answer;
-    if word(f) != 0 {
-        return h;
-    }
-    if above(h.rows, h.columns) {
-        return Header {
-            answer: Answer::Refused(Reason::AboveLimit),
-            rows: 0,
-            columns: 0,
-        };
-    }
-    h
+    Ok(())
 }
 
-// One line at a place of the text into the words of a row: true where it is not the line of a row.
-fn row_in(text: &[u8], at: usize, columns: u64, line: usize, row: &mut [u64]) -> bool
-    requires { (at ≤ length text.now) × (columns ≤ 1024) × (line ≡ line_long columns) × (length row.old ≡ wide columns) }
-    ensures { (result ≡ unframed (take line (drop at text.now)) (wide columns * 16)) × (result ≡ false → (at + line ≤ length text.now) × (row.new ≡ words_of (wide columns) (take line (drop at text.now)))) }
+// Its size and what comes after it; its words are then the first of a buffer.
+pub fn matrix_in<'a>(text: &'a [u8], held: &mut [u64; 512]) -> Result<(Limited, &'a [u8]), Reason>
+    ensures reason { word result ≡ first (matrix_tests text.now) }
+    ensures done { IfOk result (λ found. Found text.now found.0.size found.1.now held.old held.new) }
 {
-    let end = at + line;
-    if end > text.len() {
-        return true;
-    }
-    let f = read_row(columns, &text[at..end], row);
-    word(f) != 0
-}
-
-// The lines of all rows into their words: true where one of them is not the line of a row.
-fn rows_in(text: &[u8], start: usize, rows: usize, columns: u64, held: &mut [u64]) -> bool
-    requires { (start ≤ length text.now) × (rows ≤ 1024) × (columns ≤ 1024) × (length held.old ≡ words rows columns) }
-    ensures { (result ≡ misread rows columns (drop start text.now)) × (result ≡ false → (start + rows * line_long columns ≤ length text.now) × (held.new ≡ words_read rows columns (drop start text.now))) }
-{
-    let w = 2 * planes(columns as usize);
-    let line = w * 16 + 1;
-    let mut i = 0;
-    while i < rows {
-        let s = i * w;
-        let e = s + w;
-        if row_in(text, start + i * line, columns, line, &mut held[s..e]) {
-            return true;
-        }
-        i += 1;
-    }
-    false
-}
-
-// A matrix that stands at a place of the text, into the first words of a buffer.
-pub fn matrix_in(text: &[u8], start: usize, held: &mut [u64]) -> Taken
-    requires { (start ≤ length text.now) × (length held.old ≡ 512) }
-    ensures { (word result.answer ≡ first (matrix_tests (drop start text.now))) × (word result.answer ≡ 0 → Found text.now start result.rows result.columns result.end held.old held.new) }
-{
-    let h = size_in(text, start);
-    let f = h.answer;
-    if word(f) != 0 {
-        return Taken {
-            answer: f,
-            rows: 0,
-            columns: 0,
-            end: start,
-        };
-    }
-    let r = h.rows as usize;
-    let w = 2 * planes(h.columns as usize);
-    let n = r * w;
-    if rows_in(text, start + 9, r, h.columns, &mut held[0..n]) {
-        return Taken {
-            answer: Answer::Refused(Reason::NotAFrame),
-            rows: 0,
-            columns: 0,
-            end: start,
-        };
-    }
-    Taken {
-        answer: Answer::Done,
-        rows: h.rows,
-        columns: h.columns,
-        end: start + 9 + r * (w * 16 + 1),
-    }
+    let within = size_in(text)?;
+    rows_in(&text[9..], within, &mut held[..within.long()])?;
+    Ok((within, &text[9 + within.lines_long()..]))
 }

@@ -1,16 +1,17 @@
 -- Words and their bytes: either is had back from the other. Assumes nothing.
 use mathlib.Core.Path.{◌≡◌, refl, sym, ap, ap₂, ◌∙◌}
-use mathlib.Core.List.{List}
+use mathlib.Core.List.{List, ◌++◌}
 use Prim.Native.Nat.{ℕ, zero, suc, ◌+◌, ◌-◌, ◌*◌, ◌/◌, ◌%◌, ◌^◌, ◌≤◌, ◌<◌}
 use native.Mathlib.Decide.{dec_lt}
 use native.Mathlib.Omega.{arith}
 use lib.Pow.{shr-shr, shr_lt}
-use lib.ListN.{length, get_or, set}
+use lib.ListN.{length, get_or, set, take, drop, length-take, get_or-append}
+use borrow.Rule.Slice.PartMut.{put_mid, post_of}
+use Rattle.std.proofs.lemmas.List.{get_or-take, get_or-drop, get_or-append_right}
+use Rattle.std.specs.Int.{w64, to_le_bytes, from_le_bytes}
 use lib.Seq.{get_or-set_same, get_or-set_other, ext_get_or}
 use Rattle.buffers.specs.Buffer.{Words, tab}
 use Rattle.buffers.proofs.BufferLaws.{length_tab, get_d_tab}
-use Rattle.rows.specs.Row.{Written}
-use Rattle.rows.proofs.RowLaws.{written_none, written_next}
 use Rattle.wordbytes.specs.Bytes.{byte_of, value_of, words_in, bytes_of}
 
 -- ---- one word
@@ -36,21 +37,28 @@ byte_rest : (w : ℕ) → byte_of w 0 + 256 * (w / 2 ^ (8 * 1)) ≡ w
 unfolding byte_of
 byte_rest w = omega arith
 
+-- each of the eight bytes that std gives for a word
+own_byte : (w k : ℕ) → k < 8 → get_or (to_le_bytes w64 w) k 0 ≡ byte_of w k
+unfolding byte_of
+own_byte w zero l = omega arith
+own_byte w (suc zero) l = refl
+own_byte w (suc (suc zero)) l = refl
+own_byte w (suc (suc (suc zero))) l = refl
+own_byte w (suc (suc (suc (suc zero)))) l = refl
+own_byte w (suc (suc (suc (suc (suc zero))))) l = refl
+own_byte w (suc (suc (suc (suc (suc (suc zero)))))) l = refl
+own_byte w (suc (suc (suc (suc (suc (suc (suc zero))))))) l = refl
+own_byte w (suc (suc (suc (suc (suc (suc (suc (suc k)))))))) l = absurd (omega arith)
+
 -- ---- the number that bytes say
 
-pub four_bytes : (bs : List ℕ) (x : ℕ) → value_of bs x 4 ≡ get_or bs x 0 + 256 * get_or bs (x + 1) 0 + 65536 * get_or bs (x + 2) 0 + 16777216 * get_or bs (x + 3) 0
+-- std's number of eight bytes
+pub eight_bytes : (bs : List ℕ) (x n : ℕ) (eight : List ℕ) (w : ℕ) → n ≡ 8 → eight ≡ take n (drop x bs) → w ≡ from_le_bytes w64 eight → w ≡ value_of bs x 8
 unfolding value_of
-four_bytes bs x =
-    let a : x + 1 ≡ suc x = omega arith in
-    let b : x + 2 ≡ suc (suc x) = omega arith in
-    let d : x + 3 ≡ suc (suc (suc x)) = omega arith in
-    rw (a, b, d) (omega arith)
-
-pub eight_bytes : (bs : List ℕ) (x : ℕ) → value_of bs x 8 ≡ value_of bs x 4 + 4294967296 * value_of bs (x + 4) 4
-unfolding value_of
-eight_bytes bs x =
-    let a : x + 4 ≡ suc (suc (suc (suc x))) = omega arith in
-    rw a (omega arith)
+eight_bytes bs x n eight w m e h =
+    let byte : (k i : ℕ) → k < 8 → x + k ≡ i → get_or eight k 0 ≡ get_or bs i 0 = λ k i l a. rw (e, m, ← a) (get_or-take 8 (drop x bs) k 0 l ∙ get_or-drop x bs k 0) in
+    let sum : w ≡ get_or eight 0 0 + get_or eight 1 0 * 256 + get_or eight 2 0 * 65536 + get_or eight 3 0 * 16777216 + get_or eight 4 0 * 4294967296 + get_or eight 5 0 * 1099511627776 + get_or eight 6 0 * 281474976710656 + get_or eight 7 0 * 72057594037927936 = h in
+    omega (arith, sum, byte 0 x (omega arith) (omega arith), byte 1 (suc x) (omega arith) (omega arith), byte 2 (suc (suc x)) (omega arith) (omega arith), byte 3 (suc (suc (suc x))) (omega arith) (omega arith), byte 4 (suc (suc (suc (suc x)))) (omega arith) (omega arith), byte 5 (suc (suc (suc (suc (suc x))))) (omega arith) (omega arith), byte 6 (suc (suc (suc (suc (suc (suc x)))))) (omega arith) (omega arith), byte 7 (suc (suc (suc (suc (suc (suc (suc x))))))) (omega arith) (omega arith))
 
 -- the n bytes from byte x on are the lowest of w
 abbrev pub Says : List ℕ → ℕ → ℕ → ℕ → Type 0
@@ -116,17 +124,17 @@ pub written_all : (ws bs : List ℕ) → length bs ≡ 8 * length ws → Filled 
 unfolding bytes_of
 written_all ws bs long h = filled_all (byte_at ws) (8 * length ws) bs long h
 
--- one more word is written
-pub written_word : (ws : List ℕ) (p : ℕ) (old new : List ℕ) → Filled (byte_at ws) (8 * p) old → Written (byte_of (get_or ws p 0)) (8 * p) 8 old new → Filled (byte_at ws) (8 * (p + 1)) new
-written_word ws p old new h W i l = go (dec_lt i (8 * p))
+-- one more word is written, as the eight bytes that are its own
+pub put_word : (ws bs : List ℕ) (p n : ℕ) (eight : List ℕ) → 8 * p + 8 ≤ length bs → eight ≡ to_le_bytes w64 (get_or ws p 0) → Filled (byte_at ws) (8 * p) bs → Filled (byte_at ws) (8 * (p + 1)) (put_mid (8 * p) n bs eight)
+put_word ws bs p n eight room e h i l = go (dec_lt i (8 * p))
   where
-    go : Dec (i < 8 * p) → get_or new i 0 ≡ byte_at ws i
-    go (yes m) = W.before i m ∙ h i m
+    go : Dec (i < 8 * p) → get_or (put_mid (8 * p) n bs eight) i 0 ≡ byte_at ws i
+    go (yes m) = get_or-append (take (8 * p) bs) (eight ++ post_of (8 * p) n bs) 0 i (omega (arith, length-take (8 * p) bs)) ∙ get_or-take (8 * p) bs i 0 m ∙ h i m
     go (no m) =
-        let a : 8 * p + (i - 8 * p) ≡ i = omega arith in
         let d : i / 8 ≡ p = omega arith in
         let r : i % 8 ≡ i - 8 * p = omega arith in
-        rw (d, r) (ap (λ (j : ℕ). get_or new j 0) (sym a) ∙ W.written (i - 8 * p) (omega arith))
+        let own : get_or eight (i - 8 * p) 0 ≡ byte_of (get_or ws p 0) (i - 8 * p) = rw e (own_byte (get_or ws p 0) (i - 8 * p) (omega arith)) in
+        rw (d, r) (get_or-append_right (take (8 * p) bs) (eight ++ post_of (8 * p) n bs) (8 * p) i 0 (omega (arith, length-take (8 * p) bs)) (omega arith) ∙ get_or-append eight (post_of (8 * p) n bs) 0 (i - 8 * p) (omega (arith, ap length e)) ∙ own)
 
 -- ---- lengths
 
@@ -164,13 +172,3 @@ bytes_words bs n small long = sym (written_all (words_in bs) bs (omega (arith, w
     at i l =
         let e : 8 * (i / 8) + i % 8 ≡ i = omega arith in
         ap (λ (w : ℕ). byte_of w (i % 8)) (word_at_lem bs (i / 8) (omega arith)) ∙ byte_value bs (8 * (i / 8)) 8 small (i % 8) (omega arith) ∙ ap (λ (j : ℕ). get_or bs j 0) e
-
--- ---- stores
-
-pub two_written : (w x : ℕ) (old : List ℕ) → x + 2 ≤ length old → Written (byte_of w) x 2 old (set (set old x (w % 256)) (x + 1) (w / 2 ^ 8 % 256))
-unfolding byte_of
-two_written w x old room =
-    let a : x + 0 ≡ x = omega arith in
-    let one : Written (byte_of w) x 1 old (set old (x + 0) (w % 256)) = written_next (byte_of w) x 0 old old (w % 256) (omega arith) (omega arith) (written_none (byte_of w) x old) in
-    let two : Written (byte_of w) x 2 old (set (set old (x + 0) (w % 256)) (x + 1) (w / 2 ^ 8 % 256)) = written_next (byte_of w) x 1 old (set old (x + 0) (w % 256)) (w / 2 ^ 8 % 256) (omega (arith, one.long)) refl one in
-    rw a at two

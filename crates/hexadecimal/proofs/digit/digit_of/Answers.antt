@@ -1,23 +1,25 @@
 use borrow.Author.Tests.{lt-ltb, le-ltb}
+use native.Mathlib.Omega.{arith}
 use Rattle.hexadecimal.specs.Digit.{digit_of}
 use Rattle.hexadecimal.proofs.digit.digit_of.Goals as goal
 
-pub returns-then-v-lt48 : goal.returns-then-v-lt48
+pub returns-in-48-to-57 : goal.returns-in-48-to-57
 unfolding digit_of
-returns-then-v-lt48 c = simp (lt-ltb c.args.b 48 c.if-v-lt48.true)
+returns-in-48-to-57 c = (simp (le-ltb c.args.b 48 (omega arith), lt-ltb c.args.b 58 (omega arith)) (omega arith), omega arith)
 
-pub returns-then-v-lt58 : goal.returns-then-v-lt58
+pub returns-in-97-to-102 : goal.returns-in-97-to-102
 unfolding digit_of
-returns-then-v-lt58 c = simp (le-ltb c.args.b 48 c.if-v-lt48.false, lt-ltb c.args.b 58 c.if-v-lt58.true)
+returns-in-97-to-102 c =
+    (simp (le-ltb c.args.b 48 (omega arith), le-ltb c.args.b 58 (omega arith), le-ltb c.args.b 97 (omega arith), lt-ltb c.args.b 103 (omega arith)) (omega arith), omega arith)
 
-pub returns-then-v-lt97 : goal.returns-then-v-lt97
+pub returns-in_default : goal.returns-in_default
 unfolding digit_of
-returns-then-v-lt97 c = simp (le-ltb c.args.b 48 c.if-v-lt48.false, le-ltb c.args.b 58 c.if-v-lt58.false, lt-ltb c.args.b 97 c.if-v-lt97.true)
+returns-in_default c = simp (lt-ltb c.args.b 48 (omega arith))
 
-pub returns-then-v-lt103 : goal.returns-then-v-lt103
+pub returns-in_default-2 : goal.returns-in_default-2
 unfolding digit_of
-returns-then-v-lt103 c = simp (le-ltb c.args.b 48 c.if-v-lt48.false, le-ltb c.args.b 58 c.if-v-lt58.false, le-ltb c.args.b 97 c.if-v-lt97.false, lt-ltb c.args.b 103 c.if-v-lt103.true)
+returns-in_default-2 c = simp (le-ltb c.args.b 48 (omega arith), le-ltb c.args.b 58 (omega arith), lt-ltb c.args.b 97 (omega arith))
 
-pub returns : goal.returns
+pub returns-in_default-3 : goal.returns-in_default-3
 unfolding digit_of
-returns c = simp (le-ltb c.args.b 48 c.if-v-lt48.false, le-ltb c.args.b 58 c.if-v-lt58.false, le-ltb c.args.b 97 c.if-v-lt97.false, le-ltb c.args.b 103 c.if-v-lt103.false)
+returns-in_default-3 c = simp (le-ltb c.args.b 48 (omega arith), le-ltb c.args.b 58 (omega arith), le-ltb c.args.b 97 (omega arith), le-ltb c.args.b 103 (omega arith))

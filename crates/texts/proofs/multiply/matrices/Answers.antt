@@ -1,26 +1,40 @@
-use mathlib.Core.Path.{sym, ap, ◌∙◌}
+use mathlib.Core.Path.{refl, sym, ap, ◌∙◌}
 use mathlib.Core.List.{List}
+use mathlib.Core.Logic.{◌≢◌}
 use Prim.Native.Nat.{ℕ}
-use Rattle.requests.specs.Answers.{word, first}
+use lib.ListN.{length}
+use borrow.Author.Tests.{eqb-true}
+use Rattle.std.proofs.lemmas.Bool.{eqb-false}
+use Rattle.std.proofs.lemmas.Result.{err_from_is_err_and}
+use Rattle.requests.specs.Answers.{first}
+use Rattle.requests.proofs.WordLaws.{some_reason}
 use Rattle.texts.specs.MatrixText.{matrix_tests}
-use Rattle.texts.proofs.FormLaws.{form_first, form_second, form_more, form_done, rest_length, matrices_are}
+use Rattle.texts.proofs.FormLaws.{form_first, form_second, form_more, form_done, last_is, matrices_are}
 use native.Mathlib.Omega.{arith}
 use Rattle.texts.proofs.multiply.matrices.Goals as goal
 
-pub matrix_in-x-requires : goal.matrix_in-x-requires
-matrix_in-x-requires c = (omega arith, c.requires.0)
+pub returns-in_err-x-clause-reason : goal.returns-in_err-x-clause-reason
+returns-in_err-x-clause-reason c =
+    let p = err_from_is_err_and c.from_residual.result c.from_residual.ensures.1 in
+    rw (p.1, p.2) (form_first c.args.text.now _ c.in_err-x.ensures.reason (some_reason _))
 
-pub returns-then-word-ne0 : goal.returns-then-word-ne0
-returns-then-word-ne0 c = (ap word c.unread.ensures ∙ form_first c.args.text.now _ c.matrix_in-x.ensures.0 (λ z. c.if-word-ne0.true (c.word.ensures ∙ z)), λ z. absurd (c.if-word-ne0.true (c.word.ensures ∙ sym (ap word c.unread.ensures) ∙ z)))
+pub returns-in_err-y-clause-reason : goal.returns-in_err-y-clause-reason
+returns-in_err-y-clause-reason c =
+    let p = err_from_is_err_and c.from_residual-in_err-y.result c.from_residual-in_err-y.ensures.1 in
+    let second = c.in_err-y.ensures.reason ∙ ap (λ (t : List ℕ). first (matrix_tests t)) c.in_ok-x.ensures.done.rest_is in
+    rw (p.1, p.2) (form_second c.args.text.now _ c.in_ok-x.ensures.reason refl _ second (some_reason _))
 
-pub matrix_in-y-requires : goal.matrix_in-y-requires
-matrix_in-y-requires c = ((c.matrix_in-x.ensures.1 (sym c.word.ensures ∙ c.if-word-ne0.false)).within, c.requires.1)
+pub returns-then-not-is_empty-clause-reason : goal.returns-then-not-is_empty-clause-reason
+returns-then-not-is_empty-clause-reason c =
+    let second = c.in_ok-y.ensures.reason ∙ ap (λ (t : List ℕ). first (matrix_tests t)) c.in_ok-x.ensures.done.rest_is in
+    let last = last_is c.args.text.now c.in_ok-x.x.size c.in_ok-y.y.size c.in_ok-x.second.now c.in_ok-y.rest.now _ _ _ _ c.in_ok-x.ensures.done c.in_ok-y.ensures.done in
+    form_more c.args.text.now _ c.in_ok-x.ensures.reason refl _ second refl (rw (← last) (let ne : length c.in_ok-y.rest.now ≢ 0 = eqb-false (length c.in_ok-y.rest.now) 0 (sym c.if-not-is_empty.ensures) in omega arith))
 
-pub returns-then-word-ne0-2 : goal.returns-then-word-ne0-2
-returns-then-word-ne0-2 c = (ap word c.unread-then-word-ne0-2.ensures ∙ form_second c.args.text.now _ c.matrix_in-x.ensures.0 (sym c.word.ensures ∙ c.if-word-ne0.false) _ (c.matrix_in-y.ensures.0 ∙ ap (λ (t : List ℕ). first (matrix_tests t)) (c.matrix_in-x.ensures.1 (sym c.word.ensures ∙ c.if-word-ne0.false)).rest) (λ z. c.if-word-ne0-2.true (c.word-2.ensures ∙ z)), λ z. absurd (c.if-word-ne0-2.true (c.word-2.ensures ∙ sym (ap word c.unread-then-word-ne0-2.ensures) ∙ z)))
+pub returns-clause-reason : goal.returns-clause-reason
+returns-clause-reason c =
+    let second = c.in_ok-y.ensures.reason ∙ ap (λ (t : List ℕ). first (matrix_tests t)) c.in_ok-x.ensures.done.rest_is in
+    let last = last_is c.args.text.now c.in_ok-x.x.size c.in_ok-y.y.size c.in_ok-x.second.now c.in_ok-y.rest.now _ _ _ _ c.in_ok-x.ensures.done c.in_ok-y.ensures.done in
+    form_done c.args.text.now _ c.in_ok-x.ensures.reason refl _ second refl (rw (← last) (eqb-true (length c.in_ok-y.rest.now) 0 (sym c.if-not-is_empty.ensures)))
 
-pub returns-then-y-text : goal.returns-then-y-text
-returns-then-y-text c = (ap word c.unread-then-y-text.ensures ∙ form_more c.args.text.now _ c.matrix_in-x.ensures.0 (sym c.word.ensures ∙ c.if-word-ne0.false) _ (c.matrix_in-y.ensures.0 ∙ ap (λ (t : List ℕ). first (matrix_tests t)) (c.matrix_in-x.ensures.1 (sym c.word.ensures ∙ c.if-word-ne0.false)).rest) (sym c.word-2.ensures ∙ c.if-word-ne0-2.false) (omega (arith, c.if-y-text.true, rest_length c.args.text.now _ _ _ _ _ _ _ _ _ _ (c.matrix_in-x.ensures.1 (sym c.word.ensures ∙ c.if-word-ne0.false)) (c.matrix_in-y.ensures.1 (sym c.word-2.ensures ∙ c.if-word-ne0-2.false)))), λ z. absurd (omega (arith, ap word c.unread-then-y-text.ensures, z)))
-
-pub returns : goal.returns
-returns c = (form_done c.args.text.now _ c.matrix_in-x.ensures.0 (sym c.word.ensures ∙ c.if-word-ne0.false) _ (c.matrix_in-y.ensures.0 ∙ ap (λ (t : List ℕ). first (matrix_tests t)) (c.matrix_in-x.ensures.1 (sym c.word.ensures ∙ c.if-word-ne0.false)).rest) (sym c.word-2.ensures ∙ c.if-word-ne0-2.false) (omega (arith, c.if-y-text.false, rest_length c.args.text.now _ _ _ _ _ _ _ _ _ _ (c.matrix_in-x.ensures.1 (sym c.word.ensures ∙ c.if-word-ne0.false)) (c.matrix_in-y.ensures.1 (sym c.word-2.ensures ∙ c.if-word-ne0-2.false)))), λ _. matrices_are c.args.text.now _ _ _ _ _ _ _ _ _ _ (c.matrix_in-x.ensures.1 (sym c.word.ensures ∙ c.if-word-ne0.false)) (c.matrix_in-y.ensures.1 (sym c.word-2.ensures ∙ c.if-word-ne0-2.false)))
+pub returns-clause-done : goal.returns-clause-done
+returns-clause-done c = matrices_are c.args.text.now c.in_ok-x.x.size c.in_ok-y.y.size c.in_ok-x.second.now c.in_ok-y.rest.now _ _ _ _ c.in_ok-x.ensures.done c.in_ok-y.ensures.done

@@ -1,23 +1,22 @@
-use mathlib.Core.Path.{◌≡◌, sym}
-use mathlib.Core.Bool.{true≢false}
-use Prim.Native.Nat.{◌+◌, ◌-◌, ◌*◌}
-use lib.ListN.{take, drop, length-take, length-drop}
+use mathlib.Core.Path.{sym}
+use Prim.Native.Nat.{◌+◌, ◌*◌}
+use mathlib.Core.List.{[]}
+use lib.ListN.{take, length-take}
 use Rattle.buffers.specs.Buffer.{wide}
 use Rattle.frames.specs.RowLine.{line_long}
-use Rattle.frames.proofs.RowLineLaws.{wide_le}
-use Rattle.texts.proofs.TextLaws.{short_frame, row_read}
+use Rattle.requests.proofs.AnswerLaws.{here}
+use Rattle.texts.proofs.TextLaws.{short_frame, row_read, done_so}
 use native.Mathlib.Omega.{arith}
 use Rattle.texts.proofs.read.row_in.Goals as goal
 
-pub overflow_add-end : goal.overflow_add-end
+pub returns-then-text-line-clause-reason : goal.returns-then-text-line-clause-reason
 unfolding line_long
-overflow_add-end c = omega (arith, c.requires.0, c.requires.2, wide_le c.args.columns c.requires.1)
+returns-then-text-line-clause-reason c = sym (here _ 10 [] (short_frame (take (wide c.args.within.size.columns * 16 + 1) c.args.text.now) (wide c.args.within.size.columns * 16) (λ e. omega (arith, c.line_long-line.ensures.0, length-take (wide c.args.within.size.columns * 16 + 1) c.args.text.now))))
 
-pub returns-then-end-text : goal.returns-then-end-text
-unfolding line_long
-returns-then-end-text c = (sym (short_frame (take c.args.line (drop c.args.at c.args.text.now)) (wide c.args.columns * 16) (λ e. omega (arith, c.requires.2, c.if-end-text.true, length-take c.args.line (drop c.args.at c.args.text.now), length-drop c.args.at c.args.text.now))), λ e. absurd (true≢false e))
+pub returns-clause-reason : goal.returns-clause-reason
+returns-clause-reason c = (row_read c.args.within.size.columns (take (line_long c.args.within.size.columns) c.args.text.now) c.args.row.now _ _ (omega (arith, c.args.within.narrow)) c.requires (rw c.line_long-line.ensures.0 at c.read_row.ensures)).0
 
-pub returns : goal.returns
-returns c = let e : c.args.at + c.args.line - c.args.at ≡ c.args.line = omega arith in
-    let r = row_read c.args.columns (take c.args.line (drop c.args.at c.args.text.now)) c.args.row.now _ _ c.requires.1 c.requires.3 (rw e at c.read_row-f.ensures) in
-    (rw c.word.ensures r.0, λ f. (omega (arith, c.if-end-text.false), r.1 (rw c.word.ensures at f)))
+pub returns-clause-done : goal.returns-clause-done
+returns-clause-done c =
+    let r = row_read c.args.within.size.columns (take (line_long c.args.within.size.columns) c.args.text.now) c.args.row.now _ _ (omega (arith, c.args.within.narrow)) c.requires (rw c.line_long-line.ensures.0 at c.read_row.ensures) in
+    done_so c.read_row.result _ (λ z. (omega (arith, c.line_long-line.ensures.0), r.1 z))

@@ -1,21 +1,17 @@
-use mathlib.Core.Path.{◌≡◌, sym, ◌∙◌}
-use Prim.Native.Nat.{◌+◌, ◌-◌}
-use lib.ListN.{drop, length-drop}
-use Rattle.texts.proofs.TextLaws.{size_short, size_refused, size_above, size_done}
+use Rattle.std.proofs.lemmas.Result.{err_from_is_err_and}
+use Rattle.requests.proofs.WordLaws.{some_reason}
+use Rattle.texts.proofs.TextLaws.{size_short, size_refused}
+use Rattle.texts.proofs.FoundLaws.{size_limited}
 use native.Mathlib.Omega.{arith}
 use Rattle.texts.proofs.read.size_in.Goals as goal
 
-pub returns-then-end-text : goal.returns-then-end-text
-returns-then-end-text c = size_short (drop c.args.start c.args.text.now) (omega (arith, length-drop c.args.start c.args.text.now))
+pub returns-then-text-lt9 : goal.returns-then-text-lt9
+returns-then-text-lt9 c = size_short c.args.text.now (omega arith)
 
-pub returns-then-word-ne0 : goal.returns-then-word-ne0
-returns-then-word-ne0 c = let e : c.args.start + 9 - c.args.start ≡ 9 = omega arith in
-    size_refused (drop c.args.start c.args.text.now) _ _ _ (rw e at c.read_header-h.ensures) (λ z. c.if-word-ne0.true (c.word.ensures ∙ z))
-
-pub returns-then-above : goal.returns-then-above
-returns-then-above c = let e : c.args.start + 9 - c.args.start ≡ 9 = omega arith in
-    size_above (drop c.args.start c.args.text.now) _ _ _ (rw e at c.read_header-h.ensures) (sym c.word.ensures ∙ c.if-word-ne0.false) (sym c.if-above.true ∙ c.above.ensures)
+pub returns-in_err-size : goal.returns-in_err-size
+returns-in_err-size c =
+    let p = err_from_is_err_and c.from_residual.result c.from_residual.ensures.1 in
+    rw (p.1, p.2) (size_refused c.args.text.now _ _ _ c.in_err-size.ensures (some_reason _))
 
 pub returns : goal.returns
-returns c = let e : c.args.start + 9 - c.args.start ≡ 9 = omega arith in
-    size_done (drop c.args.start c.args.text.now) _ _ _ (rw e at c.read_header-h.ensures) (sym c.word.ensures ∙ c.if-word-ne0.false) (sym c.if-above.false ∙ c.above.ensures)
+returns c = size_limited c.args.text.now c.in_ok-size.size c.try_from.result c.in_ok-size.ensures c.try_from.ensures

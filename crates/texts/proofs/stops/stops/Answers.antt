@@ -1,14 +1,8 @@
-use Rattle.texts.proofs.StopsLaws.{stops_first, stops_second, stops_end}
+use Rattle.texts.proofs.StopsLaws.{past_both}
 use Rattle.texts.proofs.stops.stops.Goals as goal
 
-pub returns-then-x : goal.returns-then-x
-returns-then-x c = stops_first c.args.text.now _ c.matrix_stops-x.ensures.0 c.if-x.true
+pub returns-in-Some : goal.returns-in-Some
+returns-in-Some c = rw c.is_empty.ensures (rw c.in-Some.is at (past_both c.args.text.now _ _ c.past_matrix.ensures c.and_then.ensures))
 
-pub matrix_stops-y-requires : goal.matrix_stops-y-requires
-matrix_stops-y-requires c = (c.matrix_stops-x.ensures.1 c.if-x.false).0
-
-pub returns-then-y : goal.returns-then-y
-returns-then-y c = stops_second c.args.text.now _ c.matrix_stops-x.ensures.0 c.if-x.false c.matrix_stops-x.result.end (c.matrix_stops-x.ensures.1 c.if-x.false).1 _ c.matrix_stops-y.ensures.0 c.if-y.true
-
-pub returns : goal.returns
-returns c = stops_end c.args.text.now _ c.matrix_stops-x.ensures.0 c.if-x.false c.matrix_stops-x.result.end (c.matrix_stops-x.ensures.1 c.if-x.false).1 _ c.matrix_stops-y.ensures.0 c.if-y.false c.matrix_stops-y.result.end (c.matrix_stops-y.ensures.1 c.if-y.false).1
+pub returns-in-None : goal.returns-in-None
+returns-in-None c = rw c.in-None.is at (past_both c.args.text.now _ _ c.past_matrix.ensures c.and_then.ensures)
