@@ -11,13 +11,15 @@ use lib.ListN.{length}
 use Rattle.cells.proofs.AnyLaws.{or_left, or_right}
 use Rattle.requests.specs.declared.Size.{Size}
 use Rattle.requests.specs.declared.Buffer.TheVariants.{First, Second}
-use Rattle.requests.specs.Answers.{Tests, first, left, answered}
+use Rattle.requests.specs.declared.Reason.{Reason}
+use Rattle.requests.specs.Answers.{reason_word, Tests, first, left, answered}
 use Rattle.requests.specs.Sizes.{over, unfit}
 use Rattle.requests.specs.Faults.{faults}
 use Rattle.requests.specs.Single.{single_tests}
 use Rattle.requests.specs.Pair.{unequal, unfits, pair_tests}
 use Rattle.requests.specs.Exact.{None}
 use Rattle.requests.proofs.AnswerLaws.{first_none, append_given, later, refused, done_makes}
+use Rattle.requests.proofs.WordLaws.{some_reason}
 use Rattle.matrix.specs.Check.{check_tests, check_means}
 use Rattle.matrix.specs.Negation.{negation_means}
 use Rattle.matrix.specs.Combination.{combination_of, combination_means}
@@ -27,14 +29,15 @@ use Rattle.cface.specs.Check.{check_sizes, check_face_tests, check_face}
 use Rattle.cface.specs.Negation.{negation_sizes, negation_face_tests, negation_face}
 use Rattle.cface.specs.Pair.{pair_sizes, pair_face_tests}
 use Rattle.cface.specs.Combination.{combination_face}
-use Rattle.cface.proofs.LimitLaws.{Room, room, above_rows, above_columns, fits_words, fits_in, fits_a, fits_b, fits_out}
+use Rattle.cface.specs.Room.{Room}
+use Rattle.cface.proofs.LimitLaws.{room, above_rows, above_columns, fits_words, fits_in, fits_a, fits_b, fits_out}
 
 -- tests that do not hold are passed over
 pub past_none : (ts us : Tests) → None ts → first (ts ++ us) ≡ first us
 past_none [] us h = refl
 past_none ((t, n) ∷ ts) us h = later t n (ts ++ us) h.0 ∙ past_none ts us h.1
 
-answered_first : {S : Type 0} (ts : Tests) (old new : S) → (answered ts old new).0 ≡ first ts
+pub answered_first : {S : Type 0} (ts : Tests) (old new : S) → (answered ts old new).0 ≡ first ts
 unfolding answered
 answered_first ts old new = refl
 
@@ -71,6 +74,13 @@ carried {S = S} {R = R} g ts us before after w old new f n e says same made =
 -- refused by a size or a length: the library is not asked
 pub unasked : {R : Type 0} (ts us : Tests) (old new : R) (f : ℕ) → f ≡ first ts → (f ≡ 0 → ⊥) → (f, old) ≡ answered (ts ++ us) old new
 unasked ts us old new f e ne = refused (ts ++ us) old new f ne (append_given ts us (λ z. ne (e ∙ z)) ∙ sym e)
+
+-- .. by a reason
+pub unasked_by : {R : Type 0} (ts us : Tests) (old new : R) (r : Reason) → reason_word r ≡ first ts → (reason_word r, old) ≡ answered (ts ++ us) old new
+unasked_by ts us old new r e = unasked ts us old new (reason_word r) e (some_reason r)
+
+pub refused_first : (ts us : Tests) (r : Reason) → reason_word r ≡ first ts → reason_word r ≡ first (ts ++ us)
+refused_first ts us r e = e ∙ sym (append_given ts us (λ z. some_reason r (e ∙ z)))
 
 -- ---- check
 
@@ -171,9 +181,24 @@ unfolding negation_means negation_face
 negation_carried s a out u w w' f n z room eu e says =
     carried bytes_of (single_tests s s (words_in a) (length w)) _ w _ w' out _ f n e (rw eu at says) (negation_same s a (length out) z (length w) room) (λ _ m. ap bytes_of m)
 
+-- the library refuses, and then it is done
+module _ (s : Size) (a out u w w' : List ℕ) (z : first (negation_sizes s (length a) (length out)) ≡ 0) (room : length out ≡ 8 * length w) (eu : u ≡ words_in a) where
+  pub negation_refused : (r : Reason) → (reason_word r, w') ≡ negation_means s u w → (reason_word r, out) ≡ negation_face s a out
+  negation_refused r says = left_old _ _ _ (some_reason r) ∙ negation_carried s a out u w w' _ _ z room eu refl says
+
+  pub negation_done : (new : List ℕ) → new ≡ bytes_of w' → (0, w') ≡ negation_means s u w → (0, new) ≡ negation_face s a out
+  negation_done new made says = left_new 0 out _ new refl made ∙ negation_carried s a out u w w' 0 0 z room eu refl says
+
 pub combination_carried : (x y : Size) (d : ℕ) (a b out u v w w' : List ℕ) (f n : ℕ) → first (pair_sizes x y d (length a) (length b) (length out)) ≡ 0 → length out ≡ 8 * length w
     → u ≡ words_in a → v ≡ words_in b → f ≡ n → (n, w') ≡ combination_means x y d u v w → (f, left f out (bytes_of w')) ≡ combination_face x y d a b out
 unfolding combination_means combination_face
 combination_carried x y d a b out u v w w' f n z room eu ev e says =
     carried bytes_of (pair_tests x y d (words_in a) (words_in b) (length w)) _ w (combination_of d x.rows x.columns (words_in a) (words_in b)) w' out _ f n e (rw (eu, ev) at says)
     (pair_same x y d a b (length out) z (length w) room) (λ _ m. ap bytes_of m)
+
+module _ (x y : Size) (d : ℕ) (a b out u v w w' : List ℕ) (z : first (pair_sizes x y d (length a) (length b) (length out)) ≡ 0) (room : length out ≡ 8 * length w) (eu : u ≡ words_in a) (ev : v ≡ words_in b) where
+  pub combination_refused : (r : Reason) → (reason_word r, w') ≡ combination_means x y d u v w → (reason_word r, out) ≡ combination_face x y d a b out
+  combination_refused r says = left_old _ _ _ (some_reason r) ∙ combination_carried x y d a b out u v w w' _ _ z room eu ev refl says
+
+  pub combination_done : (new : List ℕ) → new ≡ bytes_of w' → (0, w') ≡ combination_means x y d u v w → (0, new) ≡ combination_face x y d a b out
+  combination_done new made says = left_new 0 out _ new refl made ∙ combination_carried x y d a b out u v w w' 0 0 z room eu ev refl says

@@ -1,22 +1,33 @@
 -- Sizes within the C face's limit, and lengths in bytes. Assumes nothing.
-use mathlib.Core.Path.{◌≡◌, ◌∙◌}
+use mathlib.Core.Path.{◌≡◌, sym, ◌∙◌}
 use mathlib.Core.Bool.{false, ◌||◌}
-use mathlib.Core.List.{List}
-use Prim.Native.Nat.{ℕ, ◌-◌, ◌*◌, ◌/◌, ◌≤◌}
+use mathlib.Core.List.{List, ◌∷◌}
+use Prim.Native.Nat.{ℕ, ◌*◌, ◌≤◌}
 use native.Mathlib.Nat.{mul-le-mul}
 use native.Mathlib.Omega.{arith}
 use lib.Dec.{ltb, eqb}
-use lib.ListN.{length, take}
-use lib.Seq.{length-take-le}
+use lib.ListN.{length}
 use borrow.Author.Tests.{ltb-false, eqb-true, eq-eqb, not-false}
 use Rattle.cells.proofs.AnyLaws.{or_left, or_right}
 use Rattle.buffers.specs.Buffer.{planes, wide, words}
 use Rattle.requests.specs.declared.Size.{Size}
-use Rattle.requests.specs.Sizes.{unfit}
+use Rattle.requests.specs.declared.Reason.{Reason}
+use Rattle.requests.specs.Answers.{reason_word, Tests, first}
+use Rattle.requests.specs.Sizes.{over, unfit}
+use Rattle.requests.proofs.AnswerLaws.{append_given}
+use Rattle.requests.proofs.WordLaws.{some_reason}
 use Rattle.matrix.specs.Job.{table_size, product_size}
 use Rattle.wordbytes.specs.Bytes.{words_in}
-use Rattle.cface.specs.Limit.{above, unfit_bytes, misfit_bytes}
+use Rattle.cface.specs.Limit.{above, limit_tests, both_limit_tests, unfit_bytes, misfit_bytes}
+use Rattle.cface.specs.Room.{Room}
 use Rattle.wordbytes.proofs.ByteLaws.{words_length}
+
+-- a size that its limit refuses is refused by all tests that begin with the limit's
+pub limit_given : (s : Size) (us : Tests) (r : Reason) → reason_word r ≡ first (limit_tests s) → reason_word r ≡ first ((over s, 1) ∷ (above s, 11) ∷ us)
+limit_given s us r e = e ∙ sym (append_given (limit_tests s) us (λ z. some_reason r (e ∙ z)))
+
+pub both_limit_given : (x y : Size) (us : Tests) (r : Reason) → reason_word r ≡ first (both_limit_tests x y) → reason_word r ≡ first ((over x || over y, 1) ∷ (above x || above y, 11) ∷ us)
+both_limit_given x y us r e = e ∙ sym (append_given (both_limit_tests x y) us (λ z. some_reason r (e ∙ z)))
 
 pub above_rows : (s : Size) → above s ≡ false → s.rows ≤ 64
 unfolding above
@@ -49,16 +60,8 @@ fits_words s n k h e =
 pub fits_in : (s : Size) (bs : List ℕ) → unfit_bytes s (length bs) ≡ false → unfit s (length (words_in bs)) ≡ false
 fits_in s bs h = fits_words s (length bs) (length (words_in bs)) h (omega (arith, fit_bytes s (length bs) h, words_length bs))
 
--- n bytes are whole words, at most m of them
-pub record Room (m n : ℕ) : Type 0 where
-  pub most : n / 8 ≤ m
-  pub whole : n ≡ 8 * (n / 8)
-
 pub room : (s : Size) (k n : ℕ) → s.rows ≤ k → s.columns ≤ 64 → unfit_bytes s n ≡ false → Room (k * 2) n
-room s k n hr hc h = record {
-  most = omega (arith, fit_bytes s n h, words_small s.rows s.columns k hr hc);
-  whole = omega (arith, fit_bytes s n h);
-}
+room s k n hr hc h = (omega (arith, fit_bytes s n h), omega (arith, fit_bytes s n h, words_small s.rows s.columns k hr hc))
 
 -- the four lengths of a job
 module _ (x y : Size) (w a b t p : ℕ) (h : misfit_bytes x y w a b t p ≡ false) where
@@ -95,13 +98,3 @@ module _ (x y z : Size) (l m n : ℕ) (h : (unfit_bytes x l || (unfit_bytes y m 
 
   pub fits_out : unfit_bytes z n ≡ false
   fits_out = or_right (unfit_bytes y m) _ after
-
--- the part of a buffer that holds n bytes' words
-pub part_length : (ws : List ℕ) (n m : ℕ) → length ws ≡ m → Room m n → n ≡ 8 * length (take (n / 8 - 0) ws)
-part_length ws n m long r =
-    let e : length (take (n / 8 - 0) ws) ≡ n / 8 - 0 = length-take-le (n / 8 - 0) ws (omega (arith, r.most)) in
-    omega (arith, e, r.whole)
-
--- the part that holds a table of t words
-pub exact_part : (ws : List ℕ) (t n : ℕ) → t ≤ length ws → t ≡ n → length (take (t - 0) ws) ≡ n
-exact_part ws t n h e = length-take-le (t - 0) ws (omega arith) ∙ omega (arith, e)

@@ -1,13 +1,21 @@
 -- The C face's limit, and lengths in bytes. Assumes nothing.
-use Rattle.std.specs.Prelude.{Bool, not, ◌||◌, ℕ, ◌*◌, eqb}
+use Rattle.std.specs.Prelude.{Bool, not, ◌||◌, [], ◌∷◌, ℕ, ◌*◌, eqb}
 use Rattle.buffers.specs.Buffer.{words}
 use Rattle.requests.specs.declared.Size.{Size}
 use Rattle.matrix.specs.Job.{table_size, product_size}
-use Rattle.requests.specs.Sizes.{exceeds}
+use Rattle.requests.specs.Answers.{Tests}
+use Rattle.requests.specs.Sizes.{exceeds, over}
 
 -- a row or column count is above 64
 unfoldable pub above : Size → Bool
 above s = exceeds 64 s
+
+-- the tests of one size alone, and of two
+abbrev pub limit_tests : Size → Tests
+limit_tests s = (over s, 1) ∷ (above s, 11) ∷ []
+
+abbrev pub both_limit_tests : Size → Size → Tests
+both_limit_tests x y = (over x || over y, 1) ∷ (above x || above y, 11) ∷ []
 
 -- n bytes are not exactly a matrix's
 unfoldable pub unfit_bytes : Size → ℕ → Bool

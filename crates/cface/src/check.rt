@@ -1,67 +1,35 @@
 // The legality check.
-ghost use Rattle.std.specs.Prelude.{◌≡◌, ◌*◌, length};
+ghost use Rattle.std.specs.Prelude.{◌≡◌, length};
 ghost use Rattle.requests.specs.Answers.{word, first};
 ghost use Rattle.cface.specs.Check.{check_sizes, check_face};
 
-use super::limit::{above, unfit};
+use super::limit::{unfit, within};
+use super::room::{MATRIX_WORDS, words_of};
 use matrix::check::check;
-use requests::sizes::over;
-use requests::{Answer, Reason, Size, word};
-use wordbytes::bytes::words_in;
+use requests::{Reason, Size, word};
 
-// The tests of sizes and lengths; n is how many bytes A has.
-fn judged(s: Size, n: usize) -> Answer
-    ensures { word result ≡ first (check_sizes s n) }
+// The tests of size and length.
+#[tactic(auto, using(crate::proofs::LimitLaws::limit_given), unfolding(crate::specs::Check::check_sizes, requests::specs::Answers::first))]
+fn judged(s: Size, a: &[u8]) -> Result<(), Reason>
+    ensures { word result ≡ first (check_sizes s (length a.now)) }
 {
-    if over(s) {
-        return Answer::Refused(Reason::TooLarge);
+    within(s)?;
+    if unfit(s, a) {
+        return Err(Reason::LengthWrong);
     }
-    if above(s) {
-        return Answer::Refused(Reason::AboveLimit);
-    }
-    if unfit(s, n) {
-        return Answer::Refused(Reason::LengthWrong);
-    }
-    Answer::Done
+    Ok(())
 }
 
-// The words of A go into room for exactly as many.
-fn check_words(s: Size, a: &[u8], words: &mut [u64]) -> u64
-    requires { (first (check_sizes s (length a.now)) ≡ 0) × (length a.now ≡ 8 * length words.old) }
-    ensures { result ≡ check_face s a.now }
+fn answer(s: Size, a: &[u8]) -> Result<(), Reason>
+    ensures { word result ≡ check_face s a.now }
 {
-    words_in(a, words);
-    word(check(s, words))
-}
-
-// Lends the part of exactly the right length.
-fn check_part(s: Size, a: &[u8], words: &mut [u64]) -> u64
-    requires { (first (check_sizes s (length a.now)) ≡ 0) × (length words.old ≡ 128) }
-    ensures { result ≡ check_face s a.now }
-{
-    let n = a.len() / 8;
-    check_words(s, a, &mut words[0..n])
-}
-
-// Room for the most words that the limit allows.
-fn check_room(s: Size, a: &[u8]) -> u64
-    requires { first (check_sizes s (length a.now)) ≡ 0 }
-    ensures { result ≡ check_face s a.now }
-{
-    let mut words = [0u64; 128];
-    check_part(s, a, &mut words)
+    judged(s, a)?;
+    let mut room = [0; MATRIX_WORDS];
+    check(s, words_of(a, &mut room))
 }
 
 pub fn nyuzolamba_check(rows: u64, columns: u64, a: &[u8]) -> u64
     ensures { result ≡ check_face (record { rows = rows; columns = columns }) a.now }
 {
-    let s = Size {
-        rows: rows,
-        columns: columns,
-    };
-    let f = word(judged(s, a.len()));
-    if f != 0 {
-        return f;
-    }
-    check_room(s, a)
+    word(answer(Size { rows, columns }, a))
 }

@@ -1,65 +1,27 @@
 // A matrix plus a digit times another.
-ghost use Rattle.std.specs.Prelude.{◌≡◌, ◌*◌, length};
-ghost use Rattle.requests.specs.Answers.{word, first};
-ghost use Rattle.cface.specs.Pair.{pair_sizes};
+ghost use Rattle.std.specs.Prelude.{◌≡◌};
+ghost use Rattle.requests.specs.Answers.{word};
 ghost use Rattle.cface.specs.Combination.{combination_face};
 
-use super::leave::leave;
 use super::pair::judged;
+use super::room::{MATRIX_WORDS, room_for, words_of};
 use matrix::combination::combination;
-use requests::{Size, word};
-use wordbytes::bytes::words_in_two;
+use requests::{Reason, Size, word};
+use wordbytes::bytes::bytes_of;
 
-// The words of A, B and the result go into room for exactly as many.
-fn combination_words(
-    x: Size,
-    y: Size,
-    d: u64,
-    a: &[u8],
-    b: &[u8],
-    out: &mut [u8],
-    u: &mut [u64],
-    v: &mut [u64],
-    w: &mut [u64],
-) -> u64
-    requires { (first (pair_sizes x y d (length a.now) (length b.now) (length out.old)) ≡ 0) × (length a.now ≡ 8 * length u.old) × (length b.now ≡ 8 * length v.old) × (length out.old ≡ 8 * length w.old) }
-    ensures { (result, out.new) ≡ combination_face x y d a.now b.now out.old }
+fn answer(x: Size, y: Size, digit: u64, a: &[u8], b: &[u8], out: &mut [u8]) -> Result<(), Reason>
+    ensures { (word result, out.new) ≡ combination_face x y digit a.now b.now out.old }
 {
-    words_in_two(a, b, u, v);
-    let f = word(combination(x, y, d as u8, u, v, w));
-    leave(f, w, out)
-}
-
-// Lends the parts of exactly the right length.
-fn combination_parts(
-    x: Size,
-    y: Size,
-    d: u64,
-    a: &[u8],
-    b: &[u8],
-    out: &mut [u8],
-    u: &mut [u64],
-    v: &mut [u64],
-    w: &mut [u64],
-) -> u64
-    requires { (first (pair_sizes x y d (length a.now) (length b.now) (length out.old)) ≡ 0) × (length u.old ≡ 128) × (length v.old ≡ 128) × (length w.old ≡ 128) }
-    ensures { (result, out.new) ≡ combination_face x y d a.now b.now out.old }
-{
-    let i = a.len() / 8;
-    let j = b.len() / 8;
-    let k = out.len() / 8;
-    combination_words(x, y, d, a, b, out, &mut u[0..i], &mut v[0..j], &mut w[0..k])
-}
-
-// Room for the most words that the limit allows.
-fn combination_room(x: Size, y: Size, d: u64, a: &[u8], b: &[u8], out: &mut [u8]) -> u64
-    requires { first (pair_sizes x y d (length a.now) (length b.now) (length out.old)) ≡ 0 }
-    ensures { (result, out.new) ≡ combination_face x y d a.now b.now out.old }
-{
-    let mut u = [0u64; 128];
-    let mut v = [0u64; 128];
-    let mut w = [0u64; 128];
-    combination_parts(x, y, d, a, b, out, &mut u, &mut v, &mut w)
+    judged(x, y, digit, a, b, out)?;
+    let mut a_room = [0; MATRIX_WORDS];
+    let mut b_room = [0; MATRIX_WORDS];
+    let mut out_room = [0; MATRIX_WORDS];
+    let a_words = words_of(a, &mut a_room);
+    let b_words = words_of(b, &mut b_room);
+    let out_words = room_for(out, &mut out_room);
+    combination(x, y, digit as u8, a_words, b_words, out_words)?;
+    bytes_of(out_words, out);
+    Ok(())
 }
 
 pub fn nyuzolamba_combination(
@@ -82,9 +44,5 @@ pub fn nyuzolamba_combination(
         rows: b_rows,
         columns: b_columns,
     };
-    let f = word(judged(x, y, digit, a.len(), b.len(), out.len()));
-    if f != 0 {
-        return f;
-    }
-    combination_room(x, y, digit, a, b, out)
+    word(answer(x, y, digit, a, b, out))
 }

@@ -1,9 +1,19 @@
 // The size quote.
 ghost use Rattle.std.specs.Prelude.{◌≡◌};
+ghost use Rattle.requests.specs.Answers.{word};
 ghost use Rattle.cface.specs.Quote.{quote_face};
 
-use super::count::{judged, put_count};
-use requests::{Size, word};
+use super::count::put_count;
+use super::limit::within;
+use requests::{Reason, Size, word};
+
+fn answer(x: Size, width: u64, out: &mut [u8]) -> Result<(), Reason>
+    ensures { (word result, out.new) ≡ quote_face x width out.old }
+{
+    within(x)?;
+    let steps = matrix::quote::quote(x, width)?;
+    put_count(steps, out)
+}
 
 pub fn nyuzolamba_quote(a_rows: u64, a_columns: u64, width: u64, out: &mut [u8]) -> u64
     ensures { (result, out.new) ≡ quote_face (record { rows = a_rows; columns = a_columns }) width out.old }
@@ -12,11 +22,5 @@ pub fn nyuzolamba_quote(a_rows: u64, a_columns: u64, width: u64, out: &mut [u8])
         rows: a_rows,
         columns: a_columns,
     };
-    let f = word(judged(x, width, out.len()));
-    if f != 0 {
-        return f;
-    }
-    let quoted = matrix::quote::quote(x, width);
-    put_count(quoted.steps, out);
-    0
+    word(answer(x, width, out))
 }

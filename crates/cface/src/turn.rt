@@ -1,142 +1,60 @@
 // A turn: the next steps of a job's list, as many as the budget allows or until the list ends.
-ghost use Rattle.std.specs.Prelude.{◌≡◌, ◌*◌, length};
+ghost use Rattle.std.specs.Prelude.{◌≡◌, length};
 ghost use Rattle.requests.specs.Answers.{word, first};
-ghost use Rattle.wordbytes.specs.Bytes.{words_in};
-ghost use Rattle.matrix.specs.Record.{job_in};
 ghost use Rattle.cface.specs.Turn.{turn_sizes, turn_face};
 
-use super::leave::put_job;
-use super::limit::{either_above, misfit};
-use super::record::job_in;
+use super::limit::{both_within, misfit};
+use super::record::{job_in, put_record};
+use super::room::{MATRIX_WORDS, TABLE_WORDS, words_of};
 use matrix::job::Job;
-use matrix::turn::{Turned, unwide};
-use requests::sizes::either_over;
-use requests::{Answer, Reason, Size, reason_word, word};
-use wordbytes::bytes::words_in_two;
+use matrix::turn::{turn, unwide};
+use requests::{Reason, word};
+use wordbytes::bytes::bytes_of;
 
-// The tests of sizes, width and lengths; k, l, m, t and p are how many bytes record, A, B, table and product have.
-fn judged(job: Job, k: usize, l: usize, m: usize, t: usize, p: usize) -> Answer
-    ensures { word result ≡ first (turn_sizes job k l m t p) }
+// The tests of sizes, width and lengths, of a job whose record has the right length.
+#[tactic(auto, using(crate::proofs::LimitLaws::both_limit_given), unfolding(crate::specs::Turn::turn_sizes, crate::specs::Record::unfit_record, requests::specs::Answers::first))]
+fn judged(job: Job, a: &[u8], b: &[u8], table: &[u8], product: &[u8]) -> Result<(), Reason>
+    ensures { word result ≡ first (turn_sizes job 56 (length a.now) (length b.now) (length table.now) (length product.now)) }
 {
-    if k != 56 {
-        return Answer::Refused(Reason::LengthWrong);
+    let x = job.size_a();
+    let y = job.size_b();
+    both_within(x, y)?;
+    if unwide(job.width) {
+        return Err(Reason::WidthWrong);
     }
-    let x = Size {
-        rows: job.m,
-        columns: job.l,
-    };
-    let y = Size {
-        rows: job.l,
-        columns: job.n,
-    };
-    if either_over(x, y) {
-        return Answer::Refused(Reason::TooLarge);
+    if misfit(x, y, job.width, a, b, table, product) {
+        return Err(Reason::LengthWrong);
     }
-    if either_above(x, y) {
-        return Answer::Refused(Reason::AboveLimit);
-    }
-    let width = job.width;
-    if unwide(width) {
-        return Answer::Refused(Reason::WidthWrong);
-    }
-    if misfit(x, y, width, l, m, t, p) {
-        return Answer::Refused(Reason::LengthWrong);
-    }
-    Answer::Done
+    Ok(())
 }
 
-// The words of A, B, table and product go into room for exactly as many.
-fn turn_words(
-    found: Job,
+fn answer(
     job: &mut [u8],
     a: &[u8],
     b: &[u8],
     table: &mut [u8],
     product: &mut [u8],
     budget: u32,
-    u: &mut [u64],
-    v: &mut [u64],
-    t: &mut [u64],
-    p: &mut [u64],
-) -> u64
-    requires { (found ≡ job_in (words_in job.old)) × (first (turn_sizes found (length job.old) (length a.now) (length b.now) (length table.old) (length product.old)) ≡ 0) × (length a.now ≡ 8 * length u.old) × (length b.now ≡ 8 * length v.old) × (length table.old ≡ 8 * length t.old) × (length product.old ≡ 8 * length p.old) }
-    ensures { (result, (job.new, (table.new, product.new))) ≡ turn_face job.old a.now b.now table.old product.old budget }
+) -> Result<(), Reason>
+    ensures { (word result, (job.new, (table.new, product.new))) ≡ turn_face job.old a.now b.now table.old product.old budget }
 {
-    words_in_two(a, b, u, v);
-    words_in_two(table, product, t, p);
-    let turned = matrix::turn::turn(found, u, v, t, p, budget);
-    match turned {
-        Turned::Done {
-            job: next,
-            made,
-            finished,
-        } => {
-            put_job(next, made, finished, t, p, job, table, product);
-            0
-        }
-        Turned::Refused(why) => reason_word(why),
-    }
+    let found = job_in(job)?;
+    judged(found, a, b, table, product)?;
+    let mut a_room = [0; MATRIX_WORDS];
+    let mut b_room = [0; MATRIX_WORDS];
+    let mut table_room = [0; TABLE_WORDS];
+    let mut product_room = [0; MATRIX_WORDS];
+    let a_words = words_of(a, &mut a_room);
+    let b_words = words_of(b, &mut b_room);
+    let table_words = words_of(table, &mut table_room);
+    let product_words = words_of(product, &mut product_room);
+    let turned = turn(found, a_words, b_words, table_words, product_words, budget)?;
+    put_record(turned, job);
+    bytes_of(table_words, table);
+    bytes_of(product_words, product);
+    Ok(())
 }
 
-// Lends the parts of exactly the right length.
-fn turn_parts(
-    found: Job,
-    job: &mut [u8],
-    a: &[u8],
-    b: &[u8],
-    table: &mut [u8],
-    product: &mut [u8],
-    budget: u32,
-    u: &mut [u64],
-    v: &mut [u64],
-    t: &mut [u64],
-    p: &mut [u64],
-) -> u64
-    requires { (found ≡ job_in (words_in job.old)) × (first (turn_sizes found (length job.old) (length a.now) (length b.now) (length table.old) (length product.old)) ≡ 0) × (length u.old ≡ 128) × (length v.old ≡ 128) × (length t.old ≡ 512) × (length p.old ≡ 128) }
-    ensures { (result, (job.new, (table.new, product.new))) ≡ turn_face job.old a.now b.now table.old product.old budget }
-{
-    let i = a.len() / 8;
-    let j = b.len() / 8;
-    let k = table.len() / 8;
-    let l = product.len() / 8;
-    turn_words(
-        found,
-        job,
-        a,
-        b,
-        table,
-        product,
-        budget,
-        &mut u[0..i],
-        &mut v[0..j],
-        &mut t[0..k],
-        &mut p[0..l],
-    )
-}
-
-// Room for the most words that the limit allows.
-fn turn_room(
-    found: Job,
-    job: &mut [u8],
-    a: &[u8],
-    b: &[u8],
-    table: &mut [u8],
-    product: &mut [u8],
-    budget: u32,
-) -> u64
-    requires { (found ≡ job_in (words_in job.old)) × (first (turn_sizes found (length job.old) (length a.now) (length b.now) (length table.old) (length product.old)) ≡ 0) }
-    ensures { (result, (job.new, (table.new, product.new))) ≡ turn_face job.old a.now b.now table.old product.old budget }
-{
-    let mut u = [0u64; 128];
-    let mut v = [0u64; 128];
-    let mut t = [0u64; 512];
-    let mut p = [0u64; 128];
-    turn_parts(
-        found, job, a, b, table, product, budget, &mut u, &mut v, &mut t, &mut p,
-    )
-}
-
-// A record of another length is refused before it is read.
 pub fn nyuzolamba_turn(
     job: &mut [u8],
     a: &[u8],
@@ -147,20 +65,5 @@ pub fn nyuzolamba_turn(
 ) -> u64
     ensures { (result, (job.new, (table.new, product.new))) ≡ turn_face job.old a.now b.now table.old product.old budget }
 {
-    if job.len() != 56 {
-        return word(Answer::Refused(Reason::LengthWrong));
-    }
-    let found = job_in(job);
-    let f = word(judged(
-        found,
-        job.len(),
-        a.len(),
-        b.len(),
-        table.len(),
-        product.len(),
-    ));
-    if f != 0 {
-        return f;
-    }
-    turn_room(found, job, a, b, table, product, budget)
+    word(answer(job, a, b, table, product, budget))
 }

@@ -8,9 +8,5 @@ use requests::{Size, word};
 pub extern "C" fn call_check(rows: u64, columns: u64, a: &[u64]) -> u64
     ensures { Numbered (check_tests (record { rows = rows; columns = columns }) a.now) result }
 {
-    let s = Size {
-        rows: rows,
-        columns: columns,
-    };
-    word(matrix::check::check(s, a))
+    word(matrix::check::check(Size { rows, columns }, a))
 }

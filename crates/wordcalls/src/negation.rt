@@ -11,9 +11,5 @@ use requests::{Size, word};
 pub extern "C" fn call_negation(rows: u64, columns: u64, a: &[u64], out: &mut [u64]) -> u64
     ensures { Seen (single_tests (record { rows = rows; columns = columns }) (record { rows = rows; columns = columns }) a.now (length out.old)) out.old (Shows rows columns (λ i j. 2 * cell columns a.now i j % 3)) result out.new }
 {
-    let s = Size {
-        rows: rows,
-        columns: columns,
-    };
-    word(matrix::negation::negation(s, a, out))
+    word(matrix::negation::negation(Size { rows, columns }, a, out))
 }

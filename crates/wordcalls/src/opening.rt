@@ -5,8 +5,8 @@ ghost use Rattle.requests.specs.Exact.{Seen};
 ghost use Rattle.matrix.specs.Opening.{opening_tests};
 ghost use Rattle.wordcalls.specs.Opening.{OpenedJob};
 
-use matrix::opening::Opened;
-use requests::{Size, reason_word};
+use matrix::turn::Turned;
+use requests::Size;
 
 #[unsafe(no_mangle)]
 pub extern "C" fn call_opening(
@@ -31,12 +31,16 @@ pub extern "C" fn call_opening(
         rows: b_rows,
         columns: b_columns,
     };
-    let opened = matrix::opening::opening(x, y, width, a, b, table, product);
-    match opened {
-        Opened::Done(new) => {
-            *job = [new.m, new.l, new.n, new.width, new.done, 0, 0];
+    match matrix::opening::opening(x, y, width, a, b, table, product) {
+        Ok(new) => {
+            let opened = Turned {
+                job: new,
+                made: 0,
+                finished: false,
+            };
+            *job = <[u64; 7]>::from(opened);
             0
         }
-        Opened::Refused(why) => reason_word(why),
+        Err(why) => u64::from(why),
     }
 }

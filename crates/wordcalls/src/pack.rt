@@ -10,9 +10,5 @@ use requests::{Size, word};
 pub extern "C" fn call_pack(rows: u64, columns: u64, cells: &[u8], out: &mut [u64]) -> u64
     ensures { Seen (pack_tests (record { rows = rows; columns = columns }) cells.now (length out.old)) out.old (Shows rows columns (λ i j. get_or cells.now (i * columns + j) 0)) result out.new }
 {
-    let s = Size {
-        rows: rows,
-        columns: columns,
-    };
-    word(matrix::pack::pack(s, cells, out))
+    word(matrix::pack::pack(Size { rows, columns }, cells, out))
 }

@@ -11,9 +11,5 @@ use requests::{Size, word};
 pub extern "C" fn call_scaling(rows: u64, columns: u64, d: u8, a: &[u64], out: &mut [u64]) -> u64
     ensures { Seen (scaling_tests (record { rows = rows; columns = columns }) d a.now (length out.old)) out.old (Shows rows columns (λ i j. cell columns a.now i j * d % 3)) result out.new }
 {
-    let s = Size {
-        rows: rows,
-        columns: columns,
-    };
-    word(matrix::scaling::scaling(s, d, a, out))
+    word(matrix::scaling::scaling(Size { rows, columns }, d, a, out))
 }

@@ -7,18 +7,15 @@ ghost use Rattle.steps.specs.Count.{quote};
 ghost use Rattle.matrix.specs.Job.{meant};
 ghost use Rattle.matrix.specs.Total.{total_tests};
 
-use requests::{Size, word};
+use super::told::told;
+use requests::Size;
 
 #[unsafe(no_mangle)]
 pub extern "C" fn call_total(rows: u64, columns: u64, width: u64, a: &[u64], count: &mut u64) -> u64
     ensures { Seen (total_tests (record { rows = rows; columns = columns }) width a.now) 0 (λ n. (n ≡ length (steps rows columns (meant (record { rows = rows; columns = columns }) width) (cell columns a.now))) × (n ≤ quote rows columns (meant (record { rows = rows; columns = columns }) width))) result count.new }
 {
-    let s = Size {
-        rows: rows,
-        columns: columns,
-    };
-    let counted = matrix::total::total(s, width, a);
-    *count = counted.steps;
-    let answer = counted.answer;
-    word(answer)
+    told(
+        matrix::total::total(Size { rows, columns }, width, a),
+        count,
+    )
 }

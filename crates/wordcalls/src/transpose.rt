@@ -11,9 +11,5 @@ use requests::{Size, word};
 pub extern "C" fn call_transpose(rows: u64, columns: u64, a: &[u64], out: &mut [u64]) -> u64
     ensures { Seen (single_tests (record { rows = rows; columns = columns }) (record { rows = columns; columns = rows }) a.now (length out.old)) out.old (Shows columns rows (λ i j. cell columns a.now j i)) result out.new }
 {
-    let s = Size {
-        rows: rows,
-        columns: columns,
-    };
-    word(matrix::transpose::transpose(s, a, out))
+    word(matrix::transpose::transpose(Size { rows, columns }, a, out))
 }

@@ -6,8 +6,6 @@ ghost use Rattle.matrix.specs.Record.{job_in};
 ghost use Rattle.wordcalls.specs.Turn.{TurnedJob};
 
 use matrix::job::Job;
-use matrix::turn::Turned;
-use requests::reason_word;
 
 #[unsafe(no_mangle)]
 pub extern "C" fn call_turn(
@@ -20,24 +18,12 @@ pub extern "C" fn call_turn(
 ) -> u64
     ensures { Seen (turn_tests (job_in job.old) a.now b.now table.old product.old) (job.old, (table.old, product.old)) (TurnedJob (job_in job.old) a.now b.now table.old product.old budget) result (job.new, (table.new, product.new)) }
 {
-    let found = Job {
-        m: job[0],
-        l: job[1],
-        n: job[2],
-        width: job[3],
-        done: job[4],
-    };
-    let turned = matrix::turn::turn(found, a, b, table, product, budget);
-    match turned {
-        Turned::Done {
-            job: next,
-            made,
-            finished,
-        } => {
-            let ended = finished as u64;
-            *job = [next.m, next.l, next.n, next.width, next.done, made, ended];
+    let found = Job::from(*job);
+    match matrix::turn::turn(found, a, b, table, product, budget) {
+        Ok(turned) => {
+            *job = <[u64; 7]>::from(turned);
             0
         }
-        Turned::Refused(why) => reason_word(why),
+        Err(why) => u64::from(why),
     }
 }

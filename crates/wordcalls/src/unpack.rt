@@ -11,9 +11,5 @@ use requests::{Size, word};
 pub extern "C" fn call_unpack(rows: u64, columns: u64, a: &[u64], out: &mut [u8]) -> u64
     ensures { Seen (unpack_tests (record { rows = rows; columns = columns }) a.now (length out.old)) out.old (Unpacks rows columns (cell columns a.now)) result out.new }
 {
-    let s = Size {
-        rows: rows,
-        columns: columns,
-    };
-    word(matrix::unpack::unpack(s, a, out))
+    word(matrix::unpack::unpack(Size { rows, columns }, a, out))
 }

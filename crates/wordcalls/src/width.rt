@@ -3,18 +3,12 @@ ghost use Rattle.requests.specs.Exact.{Exact};
 ghost use Rattle.matrix.specs.Job.{meant};
 ghost use Rattle.matrix.specs.Quote.{quote_tests};
 
-use requests::{Size, word};
+use super::told::told;
+use requests::Size;
 
 #[unsafe(no_mangle)]
 pub extern "C" fn call_width(rows: u64, columns: u64, width: u64, count: &mut u64) -> u64
     ensures { Exact (quote_tests (record { rows = rows; columns = columns }) width) 0 (meant (record { rows = rows; columns = columns }) width) result count.new }
 {
-    let s = Size {
-        rows: rows,
-        columns: columns,
-    };
-    let asked = matrix::width::width(s, width);
-    *count = asked.width;
-    let answer = asked.answer;
-    word(answer)
+    told(matrix::width::width(Size { rows, columns }, width), count)
 }

@@ -1,8 +1,12 @@
+use borrow.Author.Tests.{eq-eqb}
+use Rattle.requests.proofs.AnswerLaws.{none_first, finished}
+use mathlib.Core.Path.{refl}
+use mathlib.Core.List.{[], ◌∷◌}
 use Rattle.matrix.specs.Record.{job_in}
-use Rattle.wordbytes.proofs.ByteLaws.{word_at_lem}
-use native.Mathlib.Omega.{arith}
+use Rattle.cface.specs.Record.{unfit_record}
 use Rattle.cface.proofs.record.job_in.Goals as goal
 
 pub returns : goal.returns
-unfolding job_in
-returns c = rw (word_at_lem c.args.bytes.now 0 (omega (arith, c.requires)), word_at_lem c.args.bytes.now 1 (omega (arith, c.requires)), word_at_lem c.args.bytes.now 2 (omega (arith, c.requires)), word_at_lem c.args.bytes.now 3 (omega (arith, c.requires)), word_at_lem c.args.bytes.now 4 (omega (arith, c.requires)), c.word.ensures, c.word-2.ensures, c.word-3.ensures, c.word-4.ensures, c.word-5.ensures)
+unfolding job_in unfit_record
+returns c =
+    finished _ _ _ _ (none_first (_ ∷ []) (rw (eq-eqb _ 56 c.if-bytes-ne-RECORD_BYTES.false) refl, tt)) (rw (c.from.ensures, c.words_in.ensures) refl)

@@ -1,3 +1,5 @@
+use mathlib.Core.Path.{ap}
+use Prim.Native.Nat.{ℕ}
 use Rattle.requests.specs.declared.Size.{Size}
 use Rattle.buffers.specs.Buffer.{cell}
 use Rattle.requests.proofs.AnswerLaws.{seen}
@@ -12,8 +14,7 @@ pub returns : goal.returns
 unfolding total
 returns c =
     let given = c.args in
-    let made = c.total-counted in
     let s : Size = record { rows = given.rows; columns = given.columns } in
-    let E = total_exact s given.width given.a.now made.result.answer made.result.steps made.ensures in
-    rw c.word.ensures
+    let E = total_exact s given.width given.a.now c.total.result c.total.ensures in
+    rw (ap (λ (o : ℕ × ℕ). o.0) c.told.ensures, ap (λ (o : ℕ × ℕ). o.1) c.told.ensures)
     (seen E (λ z. (E.right z, omega (arith, E.right z, total_le given.rows given.columns (meant s given.width) (cell given.columns given.a.now)))))

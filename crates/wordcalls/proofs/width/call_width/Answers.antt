@@ -1,3 +1,5 @@
+use mathlib.Core.Path.{ap}
+use Prim.Native.Nat.{ℕ}
 use Rattle.requests.specs.declared.Size.{Size}
 use Rattle.matrix.proofs.Demand1.{width_exact}
 use Rattle.wordcalls.proofs.width.call_width.Goals as goal
@@ -5,6 +7,6 @@ use Rattle.wordcalls.proofs.width.call_width.Goals as goal
 pub returns : goal.returns
 returns c =
     let given = c.args in
-    let made = c.width-asked in
     let s : Size = record { rows = given.rows; columns = given.columns } in
-    rw c.word.ensures (width_exact s given.width made.result.answer made.result.width made.ensures)
+    rw (ap (λ (o : ℕ × ℕ). o.0) c.told.ensures, ap (λ (o : ℕ × ℕ). o.1) c.told.ensures)
+    (width_exact s given.width c.width.result c.width.ensures)

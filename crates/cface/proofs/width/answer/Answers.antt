@@ -1,0 +1,26 @@
+use Rattle.std.proofs.Common.{rules}
+use mathlib.Core.Path.{sym, ◌∙◌}
+use mathlib.Core.List.{[], ◌∷◌}
+use Rattle.std.proofs.lemmas.Result.{err_from_is_err_and}
+use Rattle.matrix.specs.Job.{meant}
+use Rattle.matrix.specs.Width.{width_means}
+use Rattle.wordbytes.specs.Bytes.{bytes_of}
+use Rattle.cface.specs.Width.{width_face}
+use Rattle.cface.proofs.CountLaws.{count_limited, count_refused, count_left}
+use Rattle.cface.proofs.width.answer.Goals as goal
+
+pub returns-in_err-within : goal.returns-in_err-within
+unfolding width_face
+returns-in_err-within c = search (rules, count_limited)
+
+pub returns-in_err-meant : goal.returns-in_err-meant
+unfolding width_means width_face
+returns-in_err-meant c =
+    let p = err_from_is_err_and c.from_residual-in_err-meant.result c.from_residual-in_err-meant.ensures.1 in
+    rw (p.1, p.2) (count_refused c.args.x c.args.width c.args.out.now _ (sym c.in_ok-within.ensures) (meant c.args.x c.args.width) _ c.in_err-meant.ensures)
+
+pub returns : goal.returns
+unfolding width_means width_face
+returns c =
+    let counted = count_left c.args.x c.args.width c.args.out.now (bytes_of (meant c.args.x c.args.width ∷ [])) (sym c.in_ok-within.ensures) (meant c.args.x c.args.width) _ c.in_ok-meant.ensures in
+    (rw counted.0 at c.put_count.ensures) ∙ counted.1
