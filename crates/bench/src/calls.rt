@@ -1,15 +1,10 @@
 // Requests, one call each: their answer's word comes back, and of a turn the record's steps done.
 use matrix::job::Job;
-use matrix::opening::Opened;
-use matrix::turn::Turned;
-use requests::{Size, reason_word, word};
+use requests::{Size, word};
 
 #[unsafe(no_mangle)]
 pub extern "C" fn bench_check(rows: u64, columns: u64, a: &[u64]) -> u64 {
-    let s = Size {
-        rows: rows,
-        columns: columns,
-    };
+    let s = Size { rows, columns };
     word(matrix::check::check(s, a))
 }
 
@@ -22,55 +17,37 @@ pub extern "C" fn bench_combination(
     b: &[u64],
     out: &mut [u64],
 ) -> u64 {
-    let s = Size {
-        rows: rows,
-        columns: columns,
-    };
+    let s = Size { rows, columns };
     word(matrix::combination::combination(s, s, d, a, b, out))
 }
 
 #[unsafe(no_mangle)]
 pub extern "C" fn bench_negation(rows: u64, columns: u64, a: &[u64], out: &mut [u64]) -> u64 {
-    let s = Size {
-        rows: rows,
-        columns: columns,
-    };
+    let s = Size { rows, columns };
     word(matrix::negation::negation(s, a, out))
 }
 
 #[unsafe(no_mangle)]
 pub extern "C" fn bench_scaling(rows: u64, columns: u64, d: u8, a: &[u64], out: &mut [u64]) -> u64 {
-    let s = Size {
-        rows: rows,
-        columns: columns,
-    };
+    let s = Size { rows, columns };
     word(matrix::scaling::scaling(s, d, a, out))
 }
 
 #[unsafe(no_mangle)]
 pub extern "C" fn bench_transpose(rows: u64, columns: u64, a: &[u64], out: &mut [u64]) -> u64 {
-    let s = Size {
-        rows: rows,
-        columns: columns,
-    };
+    let s = Size { rows, columns };
     word(matrix::transpose::transpose(s, a, out))
 }
 
 #[unsafe(no_mangle)]
 pub extern "C" fn bench_pack(rows: u64, columns: u64, cells: &[u8], out: &mut [u64]) -> u64 {
-    let s = Size {
-        rows: rows,
-        columns: columns,
-    };
+    let s = Size { rows, columns };
     word(matrix::pack::pack(s, cells, out))
 }
 
 #[unsafe(no_mangle)]
 pub extern "C" fn bench_unpack(rows: u64, columns: u64, a: &[u64], out: &mut [u8]) -> u64 {
-    let s = Size {
-        rows: rows,
-        columns: columns,
-    };
+    let s = Size { rows, columns };
     word(matrix::unpack::unpack(s, a, out))
 }
 
@@ -116,10 +93,7 @@ pub extern "C" fn bench_opening(
         columns: n,
     };
     let opened = matrix::opening::opening(x, y, width, a, b, table, product);
-    match opened {
-        Opened::Done(_) => 0,
-        Opened::Refused(why) => reason_word(why),
-    }
+    word(opened)
 }
 
 // A refusal gives a number that no list has.
@@ -137,19 +111,12 @@ pub extern "C" fn bench_turn(
     budget: u32,
 ) -> u64 {
     let job = Job {
-        m: m,
-        l: l,
-        n: n,
-        width: width,
-        done: done,
+        m,
+        l,
+        n,
+        width,
+        done,
     };
     let turned = matrix::turn::turn(job, a, b, table, product, budget);
-    match turned {
-        Turned::Done {
-            job: next,
-            made: _,
-            finished: _,
-        } => next.done,
-        Turned::Refused(_) => 18446744073709551615,
-    }
+    turned.map_or(u64::MAX, |turned| turned.job.done)
 }

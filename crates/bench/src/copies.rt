@@ -6,13 +6,7 @@ use wordbytes::bytes::{bytes_of, words_in_two};
 fn fits(bytes: &[u8], words: &[u64]) -> bool
     ensures { result ≡ true → length bytes.now ≡ 8 * length words.now }
 {
-    if bytes.len() % 8 != 0 {
-        return false;
-    }
-    if bytes.len() / 8 != words.len() {
-        return false;
-    }
-    true
+    bytes.len() % 8 == 0 && bytes.len() / 8 == words.len()
 }
 
 // A and B to words, and those of A to the bytes of the result.
@@ -24,13 +18,7 @@ pub extern "C" fn bench_copies(
     u: &mut [u64],
     v: &mut [u64],
 ) -> u64 {
-    if !fits(a, u) {
-        return 4;
-    }
-    if !fits(b, v) {
-        return 4;
-    }
-    if !fits(out, u) {
+    if !fits(a, u) || !fits(b, v) || !fits(out, u) {
         return 4;
     }
     words_in_two(a, b, u, v);

@@ -1,94 +1,72 @@
 // Row steps, many times over.
-ghost use Rattle.std.specs.Prelude.{◌≡◌, true, ◌*◌, ◌≤◌, length};
+ghost use Rattle.std.specs.Prelude.{◌≡◌, true, ◌*◌, ◌<◌, ◌≤◌, length};
 ghost use Rattle.rows.specs.Row.{Readable};
 
-use rows::add::add;
+use rows::accumulate::accumulate;
 use rows::fault::stray;
-use rows::subtract::subtract;
 use rows::table_step::table_step;
 
 // The row at word 0 is one of q words a plane, and legal.
 fn ready(a: &[u64], q: usize) -> bool
     ensures { result ≡ true → Readable q q 0 a.now }
 {
-    if q > 16 {
+    if q > 16 || a.len() < 2 * q {
         return false;
     }
-    if a.len() < 2 * q {
-        return false;
-    }
-    if stray(a, q, 64 * q, 0) {
-        return false;
-    }
-    true
+    !stray(a, q, 64 * q, 0)
 }
 
-fn repeat_add(d: &mut [u64], s: &[u64], q: usize, times: usize)
-    requires { Readable q q 0 d.old × Readable q q 0 s.now }
+fn repeat<S: FnMut()>(times: usize, mut step: S)
+    requires { S.IsAlwaysCallable step }
 {
-    let mut i = 0;
-    while i < times {
-        add(d, s, q, 0, 0);
-        i += 1;
+    for _ in 0..times {
+        step();
     }
 }
 
-fn repeat_subtract(d: &mut [u64], s: &[u64], q: usize, times: usize)
-    requires { Readable q q 0 d.old × Readable q q 0 s.now }
+// D times s is added to d.
+fn accumulations<const D: u64>(d: &mut [u64], s: &[u64], q: usize, times: usize) -> u64
+    requires { D < 3 }
 {
-    let mut i = 0;
-    while i < times {
-        subtract(d, s, q, 0, 0);
-        i += 1;
+    if !ready(d, q) || !ready(s, q) {
+        return 1;
     }
-}
-
-fn repeat_table_step(d: &mut [u64], s: &[u64], q: usize, times: usize)
-    requires { (4 * q ≤ length d.old) × Readable q q 0 d.old × Readable q q 0 s.now }
-{
-    let x = 2 * q;
-    let mut i = 0;
-    while i < times {
-        table_step(d, s, q, x, 0, 0);
-        i += 1;
-    }
+    repeat(
+        times,
+        ||
+            requires { Readable q q 0 d.now × Readable q q 0 s.now × (D < 3) }
+            ensures { Readable q q 0 d.exit.now }
+        {
+            accumulate::<D>(d, s, q, 0, 0);
+        },
+    );
+    0
 }
 
 #[unsafe(no_mangle)]
 pub extern "C" fn bench_add(d: &mut [u64], s: &[u64], q: usize, times: usize) -> u64 {
-    if !ready(d, q) {
-        return 1;
-    }
-    if !ready(s, q) {
-        return 1;
-    }
-    repeat_add(d, s, q, times);
-    0
+    accumulations::<1>(d, s, q, times)
 }
 
 #[unsafe(no_mangle)]
 pub extern "C" fn bench_subtract(d: &mut [u64], s: &[u64], q: usize, times: usize) -> u64 {
-    if !ready(d, q) {
-        return 1;
-    }
-    if !ready(s, q) {
-        return 1;
-    }
-    repeat_subtract(d, s, q, times);
-    0
+    accumulations::<2>(d, s, q, times)
 }
 
 #[unsafe(no_mangle)]
 pub extern "C" fn bench_table_step(d: &mut [u64], s: &[u64], q: usize, times: usize) -> u64 {
-    if !ready(d, q) {
+    if !ready(d, q) || !ready(s, q) || d.len() / 4 < q {
         return 1;
     }
-    if !ready(s, q) {
-        return 1;
-    }
-    if d.len() / 4 < q {
-        return 1;
-    }
-    repeat_table_step(d, s, q, times);
+    let x = 2 * q;
+    repeat(
+        times,
+        ||
+            requires { (x ≡ 2 * q) × (4 * q ≤ length d.now) × Readable q q 0 d.now × Readable q q 0 s.now }
+            ensures { (4 * q ≤ length d.exit.now) × Readable q q 0 d.exit.now }
+        {
+            table_step(d, s, q, x, 0, 0);
+        },
+    );
     0
 }

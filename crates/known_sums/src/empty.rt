@@ -1,87 +1,56 @@
 // Matrices of no columns, and of no rows, in every request.
-use super::show::answer;
-use requests::Size;
+use matrix::check::check;
+use matrix::combination::combination;
+use matrix::negation::negation;
+use matrix::pack::pack;
+use matrix::scaling::scaling;
+use matrix::transpose::transpose;
+use matrix::unpack::unpack;
+use requests::{Size, number};
 use std::io;
-use std::io::Stdout;
 
-pub fn matrices(stdout: Stdout) -> io::Result<()> {
-    let none = [0u64; 1];
-    let more = [0u64; 1];
-    let mut out = [0u64; 1];
-    let flat = Size {
-        rows: 5,
-        columns: 0,
-    };
-    let thin = Size {
-        rows: 0,
-        columns: 70,
-    };
-    answer(
-        stdout,
-        b"check 5 by 0:",
-        matrix::check::check(flat, &none[0..0]),
-    )?;
-    answer(
-        stdout,
-        b"check 0 by 70:",
-        matrix::check::check(thin, &none[0..0]),
-    )?;
-    answer(
-        stdout,
-        b"combination by 1, 5 by 0:",
-        matrix::combination::combination(flat, flat, 1, &none[0..0], &more[0..0], &mut out[0..0]),
-    )?;
-    answer(
-        stdout,
-        b"combination by 2, 0 by 70:",
-        matrix::combination::combination(thin, thin, 2, &none[0..0], &more[0..0], &mut out[0..0]),
-    )?;
-    answer(
-        stdout,
-        b"negation 5 by 0:",
-        matrix::negation::negation(flat, &none[0..0], &mut out[0..0]),
-    )?;
-    answer(
-        stdout,
-        b"scaling 0 by 70:",
-        matrix::scaling::scaling(thin, 2, &none[0..0], &mut out[0..0]),
-    )?;
-    answer(
-        stdout,
-        b"transpose 5 by 0:",
-        matrix::transpose::transpose(flat, &none[0..0], &mut out[0..0]),
-    )?;
-    answer(
-        stdout,
-        b"transpose 0 by 70:",
-        matrix::transpose::transpose(thin, &none[0..0], &mut out[0..0]),
-    )?;
+const FLAT: Size = Size {
+    rows: 5,
+    columns: 0,
+};
+
+const THIN: Size = Size {
+    rows: 0,
+    columns: 70,
+};
+
+pub fn matrices(rt: &impl Print) -> io::Result<()> {
+    for (label, answer) in [
+        ("check 5 by 0", check(FLAT, &[])),
+        ("check 0 by 70", check(THIN, &[])),
+        (
+            "combination by 1, 5 by 0",
+            combination(FLAT, FLAT, 1, &[], &[], &mut []),
+        ),
+        (
+            "combination by 2, 0 by 70",
+            combination(THIN, THIN, 2, &[], &[], &mut []),
+        ),
+        ("negation 5 by 0", negation(FLAT, &[], &mut [])),
+        ("scaling 0 by 70", scaling(THIN, 2, &[], &mut [])),
+        ("transpose 5 by 0", transpose(FLAT, &[], &mut [])),
+        ("transpose 0 by 70", transpose(THIN, &[], &mut [])),
+    ] {
+        println!(rt; "{label}: {:08}", number(answer))?;
+    }
     Ok(())
 }
 
-pub fn bytes(stdout: Stdout) -> io::Result<()> {
-    let cells = [0u8; 1];
-    let mut back = [0u8; 1];
-    let mut out = [0u64; 1];
-    let flat = Size {
-        rows: 5,
-        columns: 0,
-    };
-    answer(
-        stdout,
-        b"pack 5 by 0:",
-        matrix::pack::pack(flat, &cells[0..0], &mut out[0..0]),
-    )?;
-    answer(
-        stdout,
-        b"unpack 5 by 0:",
-        matrix::unpack::unpack(flat, &out[0..0], &mut back[0..0]),
-    )?;
+pub fn bytes(rt: &impl Print) -> io::Result<()> {
+    for (label, answer) in [
+        ("pack 5 by 0", pack(FLAT, &[], &mut [])),
+        ("unpack 5 by 0", unpack(FLAT, &[], &mut [])),
+    ] {
+        println!(rt; "{label}: {:08}", number(answer))?;
+    }
     Ok(())
 }
 
-pub fn tally(stdout: Stdout) -> io::Result<()> {
-    let none = [0u64; 1];
-    super::tallies::tally(stdout, b"tally of no columns:", 0, &none[0..0])?;
-    Ok(())
+pub fn tally(rt: &impl Print) -> io::Result<()> {
+    super::tallies::tally(rt, "tally of no columns", 0, &[])
 }

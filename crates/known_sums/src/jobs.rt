@@ -1,100 +1,80 @@
 // Quotes, and jobs of no column in A or in B.
-use super::show::{answer, value};
+use super::SAMPLE;
 use matrix::job::Job;
-use matrix::opening::Opened;
-use matrix::turn::Turned;
-use requests::Size;
+use matrix::opening::opening;
+use matrix::product::product;
+use matrix::quote::quote;
+use matrix::total::total;
+use matrix::turn::turn;
+use requests::{Size, number};
 use std::io;
-use std::io::Stdout;
 
-fn size(rows: u64, columns: u64) -> Size {
-    Size {
-        rows: rows,
-        columns: columns,
-    }
-}
-
-pub fn quotes(stdout: Stdout) -> io::Result<()> {
-    value(
-        stdout,
-        b"quote 1024 by 1024, width 2:",
-        matrix::quote::quote(size(1024, 1024), 2).steps,
+pub fn quotes(rt: &impl Print) -> io::Result<()> {
+    let largest = Size {
+        rows: 1024,
+        columns: 1024,
+    };
+    println!(rt;
+        "quote 1024 by 1024, width 2: {:08}",
+        quote(largest, 2).unwrap_or(0)
     )?;
-    let widest = matrix::quote::quote(size(2, 3), 8).answer;
-    answer(stdout, b"quote, width 8:", widest)?;
-    let wider = matrix::quote::quote(size(2, 3), 9).answer;
-    answer(stdout, b"quote, width 9:", wider)?;
+    for width in [8, 9] {
+        println!(rt; "quote, width {width}: {:08}", number(quote(SAMPLE, width)))?;
+    }
     Ok(())
 }
 
 // A has no column: the product holds noise before.
-pub fn no_middle(stdout: Stdout) -> io::Result<()> {
-    let none = [0u64; 1];
-    let more = [0u64; 1];
-    let mut table = [5u64; 32];
-    let mut product = [7u64; 4];
-    let a = size(2, 0);
-    let b = size(0, 2);
-    value(
-        stdout,
-        b"total, l = 0:",
-        matrix::total::total(a, 4, &none[0..0]).steps,
-    )?;
-    answer(
-        stdout,
-        b"product, l = 0:",
-        matrix::product::product(a, b, 4, &none[0..0], &more[0..0], &mut table, &mut product),
-    )?;
-    value(
-        stdout,
-        b"its words together:",
-        product[0] | product[1] | product[2] | product[3],
-    )?;
-    Ok(())
+pub fn no_middle(rt: &impl Print) -> io::Result<()> {
+    let a = Size {
+        rows: 2,
+        columns: 0,
+    };
+    let b = Size {
+        rows: 0,
+        columns: 2,
+    };
+    let mut table = [5; 32];
+    let mut out = [7; 4];
+    println!(rt; "total, l = 0: {:08}", total(a, 4, &[]).unwrap_or(0))?;
+    let answer = product(a, b, 4, &[], &[], &mut table, &mut out);
+    println!(rt; "product, l = 0: {:08}", number(answer))?;
+    println!(rt;
+        "its words together: {:08}",
+        out[0] | out[1] | out[2] | out[3]
+    )
 }
 
 // B has no column: the sample's A at width 2.
-pub fn no_columns(stdout: Stdout) -> io::Result<()> {
-    let a = [3u64, 2, 6, 2];
-    let b = [0u64; 1];
-    let mut table = [0u64; 1];
-    let mut product = [0u64; 1];
-    let opened = matrix::opening::opening(
-        size(2, 3),
-        size(3, 0),
-        2,
-        &a,
-        &b[0..0],
-        &mut table[0..0],
-        &mut product[0..0],
-    );
-    let Opened::Done(new) = opened else {
-        value(stdout, b"opening, n = 0, refused:", 1)?;
-        return Ok(());
+pub fn no_columns(rt: &impl Print) -> io::Result<()> {
+    let a = [3, 2, 6, 2];
+    let b = Size {
+        rows: 3,
+        columns: 0,
     };
-    value(stdout, b"opening, n = 0:", new.done)?;
-    let next = one_turn(stdout, new, &a)?;
-    one_turn(stdout, next, &a)?;
-    Ok(())
+    match opening(SAMPLE, b, 2, &a, &[], &mut [], &mut []) {
+        Ok(job) => {
+            println!(rt; "opening, n = 0: {:08}", job.done)?;
+            let next = one_turn(rt, job, &a)?;
+            one_turn(rt, next, &a)?;
+            Ok(())
+        }
+        refused => println!(rt; "opening, n = 0, refused: {:08}", number(refused)),
+    }
 }
 
 // A turn with budget 5 where B has no column: what it says, and the record it answers.
-fn one_turn(stdout: Stdout, job: Job, a: &[u64]) -> io::Result<Job> {
-    let b = [0u64; 1];
-    let mut table = [0u64; 1];
-    let mut product = [0u64; 1];
-    let turned = matrix::turn::turn(job, a, &b[0..0], &mut table[0..0], &mut product[0..0], 5);
-    let Turned::Done {
-        job: next,
-        made,
-        finished,
-    } = turned
-    else {
-        value(stdout, b"turn, n = 0, refused:", 1)?;
-        return Ok(job);
-    };
-    value(stdout, b"steps of a turn with budget 5:", made)?;
-    value(stdout, b"steps done:", next.done)?;
-    value(stdout, b"finished:", finished as u64)?;
-    Ok(next)
+fn one_turn(rt: &impl Print, job: Job, a: &[u64]) -> io::Result<Job> {
+    match turn(job, a, &[], &mut [], &mut [], 5) {
+        Ok(turned) => {
+            println!(rt; "steps of a turn with budget 5: {:08}", turned.made)?;
+            println!(rt; "steps done: {:08}", turned.job.done)?;
+            println!(rt; "finished: {:08}", u64::from(turned.finished))?;
+            Ok(turned.job)
+        }
+        refused => {
+            println!(rt; "turn, n = 0, refused: {:08}", number(refused))?;
+            Ok(job)
+        }
+    }
 }

@@ -6,34 +6,38 @@ mod empty;
 mod jobs;
 mod limits;
 mod places;
-mod show;
 mod tallies;
 mod widths;
 mod witness;
 
+use requests::Size;
 use std::io;
 
+// The size of the sample's A.
+const SAMPLE: Size = Size {
+    rows: 2,
+    columns: 3,
+};
+
 fn main(rt: HostRuntime) -> io::Result<()> {
-    let stdout = rt.stdout();
-    limits::sizes(stdout)?;
-    limits::padding(stdout)?;
-    empty::matrices(stdout)?;
-    empty::bytes(stdout)?;
-    empty::tally(stdout)?;
-    tallies::all_levels(stdout)?;
-    tallies::no_low_level(stdout)?;
-    widths::quotes(stdout)?;
-    jobs::quotes(stdout)?;
-    widths::squares(stdout)?;
-    widths::edges(stdout)?;
-    widths::asked(stdout)?;
-    witness::quotes_met(stdout)?;
-    jobs::no_middle(stdout)?;
-    jobs::no_columns(stdout)?;
-    places::of_one(stdout)?;
-    places::beyond_a_word(stdout)?;
-    places::of_two(stdout)?;
-    places::of_digits(stdout)?;
-    places::of_a_turn(stdout)?;
-    Ok(())
+    limits::sizes(&rt)?;
+    limits::padding(&rt)?;
+    empty::matrices(&rt)?;
+    empty::bytes(&rt)?;
+    empty::tally(&rt)?;
+    tallies::all_levels(&rt)?;
+    tallies::no_low_level(&rt)?;
+    widths::quotes(&rt)?;
+    jobs::quotes(&rt)?;
+    widths::squares(&rt)?;
+    widths::edges(&rt)?;
+    widths::asked(&rt)?;
+    witness::quotes_met(&rt)?;
+    jobs::no_middle(&rt)?;
+    jobs::no_columns(&rt)?;
+    places::of_one(&rt)?;
+    places::beyond_a_word(&rt)?;
+    places::of_two(&rt)?;
+    places::of_digits(&rt)?;
+    places::of_a_turn(&rt)
 }

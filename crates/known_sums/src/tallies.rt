@@ -1,97 +1,72 @@
 // Rows through the tally, around the ends of words and up to the longest that can be balanced: each length with all three levels in turn, and without
 // the low one.
-ghost use Rattle.std.specs.Prelude.{◌≤◌};
+ghost use Rattle.std.specs.Prelude.{◌<◌, ◌≤◌, length};
 
-use super::show::{answer, value};
-use requests::Size;
+use matrix::pack::pack;
+use requests::{Size, number};
+use std::fmt::Display;
 use std::io;
-use std::io::Stdout;
 
-pub fn tally(stdout: Stdout, label: &[u8], columns: u64, row: &[u64]) -> io::Result<()> {
-    let t = matrix::tally::tally(columns, row);
-    let said = t.answer;
-    answer(stdout, label, said)?;
-    let counts = t.counts;
-    value(stdout, b"  zeros:", counts[0])?;
-    value(stdout, b"  ones:", counts[1])?;
-    value(stdout, b"  twos:", counts[2])?;
-    value(stdout, b"  balanced:", t.balanced as u64)?;
+pub fn tally(
+    rt: &impl Print,
+    label: impl Display + Drop,
+    columns: u64,
+    row: &[u64],
+) -> io::Result<()> {
+    let answer = matrix::tally::tally(columns, row);
+    println!(rt; "{label}: {:08}", number(answer))?;
+    if let Ok(tallied) = answer {
+        let [zeros, ones, twos] = tallied.counts;
+        println!(rt; "  zeros: {zeros:08}")?;
+        println!(rt; "  ones: {ones:08}")?;
+        println!(rt; "  twos: {twos:08}")?;
+        println!(rt; "  balanced: {:08}", u64::from(tallied.balanced))?;
+    }
     Ok(())
 }
 
-// The level after this one; after the highest, the lowest.
-fn next(level: u8, lowest: u8) -> u8
-    requires { (level ≤ 2) × (lowest ≤ 2) }
-    ensures { result ≤ 2 }
+fn fill(cells: &mut [u8], levels: &[u8])
+    requires { 0 < length levels.now }
 {
-    if level == 2 {
-        return lowest;
-    }
-    level + 1
-}
-
-fn fill(cells: &mut [u8], lowest: u8)
-    requires { lowest ≤ 2 }
-{
-    let mut level = lowest;
-    let mut j = 0;
-    while j < cells.len() {
-        cells[j] = level;
-        level = next(level, lowest);
-        j += 1;
+    for (j, cell) in cells.iter_mut().enumerate() {
+        *cell = levels[j % levels.len()];
     }
 }
 
-fn packed(
-    stdout: Stdout,
-    label: &[u8],
-    lowest: u8,
-    cells: &mut [u8],
-    row: &mut [u64],
-) -> io::Result<()>
-    requires { lowest ≤ 2 }
+// A row of so many columns that holds the levels in turn. Without a heap there is room for the longest, of which a part is lent.
+fn row_of(rt: &impl Print, label: &str, levels: &[u8], columns: usize) -> io::Result<()>
+    requires { (0 < length levels.now) × (columns ≤ 1023) }
 {
-    fill(cells, lowest);
+    let mut cells = [0; 1023];
+    let cells = &mut cells[..columns];
+    fill(cells, levels);
+    let mut row = [0; 32];
+    let row = &mut row[..2 * columns.div_ceil(64)];
     let s = Size {
         rows: 1,
-        columns: cells.len() as u64,
+        columns: columns as u64,
     };
-    matrix::pack::pack(s, cells, row);
-    tally(stdout, label, s.columns, row)?;
+    let _ = pack(s, cells, row);
+    tally(
+        rt,
+        format_args!("{label} in {columns} columns"),
+        s.columns,
+        row,
+    )
+}
+
+const LENGTHS: [usize; 6] = [3, 4, 64, 65, 192, 1023];
+
+pub fn all_levels(rt: &impl Print) -> io::Result<()> {
+    for columns in LENGTHS {
+        row_of(rt, "0 1 2", &[0, 1, 2], columns)?;
+    }
     Ok(())
 }
 
-fn in_turn(stdout: Stdout, label: &[u8], lowest: u8, columns: usize, words: usize) -> io::Result<()>
-    requires { (lowest ≤ 2) × (columns ≤ 1023) × (words ≤ 32) }
-{
-    let mut cells = [0u8; 1023];
-    let mut row = [0u64; 32];
-    packed(
-        stdout,
-        label,
-        lowest,
-        &mut cells[0..columns],
-        &mut row[0..words],
-    )?;
-    Ok(())
-}
-
-pub fn all_levels(stdout: Stdout) -> io::Result<()> {
-    in_turn(stdout, b"0 1 2 in 3 columns:", 0, 3, 2)?;
-    in_turn(stdout, b"0 1 2 in 4 columns:", 0, 4, 2)?;
-    in_turn(stdout, b"0 1 2 in 64 columns:", 0, 64, 2)?;
-    in_turn(stdout, b"0 1 2 in 65 columns:", 0, 65, 4)?;
-    in_turn(stdout, b"0 1 2 in 192 columns:", 0, 192, 6)?;
-    in_turn(stdout, b"0 1 2 in 1023 columns:", 0, 1023, 32)?;
-    Ok(())
-}
-
-pub fn no_low_level(stdout: Stdout) -> io::Result<()> {
-    in_turn(stdout, b"1 2 in 3 columns:", 1, 3, 2)?;
-    in_turn(stdout, b"1 2 in 4 columns:", 1, 4, 2)?;
-    in_turn(stdout, b"1 2 in 64 columns:", 1, 64, 2)?;
-    in_turn(stdout, b"1 2 in 65 columns:", 1, 65, 4)?;
-    in_turn(stdout, b"1 2 in 192 columns:", 1, 192, 6)?;
-    in_turn(stdout, b"1 2 in 1023 columns:", 1, 1023, 32)?;
+pub fn no_low_level(rt: &impl Print) -> io::Result<()> {
+    for columns in LENGTHS {
+        row_of(rt, "1 2", &[1, 2], columns)?;
+    }
     Ok(())
 }

@@ -1,78 +1,47 @@
 // Quotes at every width, and the width that 0 means.
-use super::show::{answer, value};
-use requests::Size;
+use super::SAMPLE;
+use matrix::quote::quote;
+use matrix::width::width;
+use requests::{Size, number};
 use std::io;
-use std::io::Stdout;
 
-fn quoted(stdout: Stdout, label: &[u8], width: u64) -> io::Result<()> {
-    let s = Size {
-        rows: 2,
-        columns: 3,
-    };
-    value(stdout, label, matrix::quote::quote(s, width).steps)?;
+pub fn quotes(rt: &impl Print) -> io::Result<()> {
+    for width in [1, 2, 3, 4, 5, 6, 7, 8, 0] {
+        println!(rt;
+            "quote 2 by 3, width {width}: {:08}",
+            quote(SAMPLE, width).unwrap_or(0)
+        )?;
+    }
     Ok(())
 }
 
-pub fn quotes(stdout: Stdout) -> io::Result<()> {
-    quoted(stdout, b"quote 2 by 3, width 1:", 1)?;
-    quoted(stdout, b"quote 2 by 3, width 2:", 2)?;
-    quoted(stdout, b"quote 2 by 3, width 3:", 3)?;
-    quoted(stdout, b"quote 2 by 3, width 4:", 4)?;
-    quoted(stdout, b"quote 2 by 3, width 5:", 5)?;
-    quoted(stdout, b"quote 2 by 3, width 6:", 6)?;
-    quoted(stdout, b"quote 2 by 3, width 7:", 7)?;
-    quoted(stdout, b"quote 2 by 3, width 8:", 8)?;
-    quoted(stdout, b"quote 2 by 3, width 0:", 0)?;
-    Ok(())
+fn meant(rt: &impl Print, rows: u64, columns: u64) -> io::Result<()> {
+    let width = width(Size { rows, columns }, 0).unwrap_or(0);
+    println!(rt; "width 0 means, {rows} by {columns}: {width:08}")
 }
 
-fn meant(stdout: Stdout, label: &[u8], rows: u64, columns: u64) -> io::Result<()> {
-    let s = Size {
-        rows: rows,
-        columns: columns,
-    };
-    value(stdout, label, matrix::width::width(s, 0).width)?;
-    Ok(())
-}
-
-pub fn squares(stdout: Stdout) -> io::Result<()> {
-    meant(stdout, b"width 0 means, 1 by 1:", 1, 1)?;
-    meant(stdout, b"width 0 means, 2 by 2:", 2, 2)?;
-    meant(stdout, b"width 0 means, 8 by 8:", 8, 8)?;
-    meant(stdout, b"width 0 means, 16 by 16:", 16, 16)?;
-    meant(stdout, b"width 0 means, 32 by 32:", 32, 32)?;
-    meant(stdout, b"width 0 means, 64 by 64:", 64, 64)?;
-    meant(stdout, b"width 0 means, 128 by 128:", 128, 128)?;
-    meant(stdout, b"width 0 means, 256 by 256:", 256, 256)?;
-    meant(stdout, b"width 0 means, 512 by 512:", 512, 512)?;
-    meant(stdout, b"width 0 means, 1024 by 1024:", 1024, 1024)?;
+pub fn squares(rt: &impl Print) -> io::Result<()> {
+    for side in [1, 2, 8, 16, 32, 64, 128, 256, 512, 1024] {
+        meant(rt, side, side)?;
+    }
     Ok(())
 }
 
 // No column and one; the widest within 64 by 64, and within 128 by 128.
-pub fn edges(stdout: Stdout) -> io::Result<()> {
-    meant(stdout, b"width 0 means, 2 by 3:", 2, 3)?;
-    meant(stdout, b"width 0 means, 5 by 0:", 5, 0)?;
-    meant(stdout, b"width 0 means, 5 by 1:", 5, 1)?;
-    meant(stdout, b"width 0 means, 64 by 7:", 64, 7)?;
-    meant(stdout, b"width 0 means, 128 by 8:", 128, 8)?;
+pub fn edges(rt: &impl Print) -> io::Result<()> {
+    for (rows, columns) in [(2, 3), (5, 0), (5, 1), (64, 7), (128, 8)] {
+        meant(rt, rows, columns)?;
+    }
     Ok(())
 }
 
 // What a width as it is handed in means, and what is refused.
-pub fn asked(stdout: Stdout) -> io::Result<()> {
-    let s = Size {
-        rows: 2,
-        columns: 3,
-    };
-    value(stdout, b"width 5 means:", matrix::width::width(s, 5).width)?;
-    let wider = matrix::width::width(s, 9).answer;
-    answer(stdout, b"width 9:", wider)?;
+pub fn asked(rt: &impl Print) -> io::Result<()> {
     let large = Size {
         rows: 2,
         columns: 1025,
     };
-    let larger = matrix::width::width(large, 9).answer;
-    answer(stdout, b"width of 1025 columns:", larger)?;
-    Ok(())
+    println!(rt; "width 5 means: {:08}", width(SAMPLE, 5).unwrap_or(0))?;
+    println!(rt; "width 9: {:08}", number(width(SAMPLE, 9)))?;
+    println!(rt; "width of 1025 columns: {:08}", number(width(large, 9)))
 }
