@@ -4,26 +4,29 @@ import re
 from source import leaves, split, unwrapped
 
 # Results that are a word and nothing else, and how a contract names it.
-WORDS = {'Answer': 'word result', 'u64': 'result', 'usize': 'result'}
-# Results that are enums with values of their own, and the definition that gives word and values for each case, with what is left in the buffers.
-ENUMS = {'Opened': 'opened', 'Turned': 'turned'}
+WORDS = {'Result<(), Reason>': 'word result', 'u64': 'result', 'usize': 'result'}
+# Results that hold a value where they are done: the definition that gives word and value for each case, and what it is handed before the result.
+HELD = {
+    'Result<u64, Reason>': ['told', '0'],
+    'Result<Size, Reason>': ['header_told'],
+    'Result<Tallied, Reason>': ['tally_told'],
+    'Result<Job, Reason>': ['opened'],
+    'Result<Turned, Reason>': ['turned'],
+}
+# How many things, none of them answered, each is handed before the result.
+BEFORE = {definition: len(given) for definition, *given in HELD.values()}
 
 
-def outcome(function, structs):
-    """All that a function leaves: its word, the other fields of its struct or its whole enum, and what it was lent to be written."""
-    if function.returns in ENUMS:
-        result = [ENUMS[function.returns], 'result']
-    elif function.returns in structs:
-        result = ['word result.answer'] + [f'result.{name}' for name in structs[function.returns] if name != 'answer']
-    else:
-        result = [WORDS[function.returns]]
+def outcome(function):
+    """All that a function leaves: its word, with the value that it holds, and what it was lent to be written."""
+    result = [*HELD[function.returns], 'result'] if function.returns in HELD else [WORDS[function.returns]]
     return result + [f'{name}.new' for name, kind in function.parameters if kind.startswith('&mut ')]
 
 
 def left_parts(left):
-    """The parts of an equation's left side: of a pair, or what the definition of an enum is handed, that definition first."""
+    """The parts of an equation's left side: of a pair, or what the definition of a held value is handed, that definition first."""
     head, *rest = split(left, ' ')
-    return [head] + [unwrapped(part) for part in rest] if head in ENUMS.values() else leaves(left)
+    return [head] + [unwrapped(part) for part in rest] if head in BEFORE else leaves(left)
 
 
 def arguments(function):
@@ -48,10 +51,10 @@ def compared(side, found, wanted):
         yield f'the {side} side of its equation does not have once and in this order: {", ".join(wanted)}'
 
 
-def contract_faults(function, definition, structs):
+def contract_faults(function, definition):
     """The contract is one equation: all that the function leaves is the definition of all that it is handed. Nothing is required."""
     kinds = [kind for kind, _ in function.clauses]
-    hidden = {definition, 'word', 'result', *ENUMS.values()} & {name for name, _ in function.parameters}
+    hidden = {definition, 'word', 'result', *BEFORE} & {name for name, _ in function.parameters}
     if hidden:
         yield f'its parameter {", ".join(sorted(hidden))} hides what its contract is made of'
     if function.requires:
@@ -63,10 +66,10 @@ def contract_faults(function, definition, structs):
     if len(sides) != 2:
         yield 'its ensures is not one equation, { .. ≡ .. }'
         return
-    if function.returns not in {*WORDS, *ENUMS} and 'answer' not in structs.get(function.returns, []):
-        yield f'it gives a {function.returns}, which is no word, no enum with a definition and no struct of its crate with an answer'
+    if function.returns not in {*WORDS, *HELD}:
+        yield f'it gives a {function.returns}, which is no word and no result with a definition'
         return
-    yield from compared('left', left_parts(sides[0]), outcome(function, structs))
+    yield from compared('left', left_parts(sides[0]), outcome(function))
     head, *given = split(sides[1], ' ')
     if head != definition:
         yield f'the right side of its equation is not {definition} of what it is handed'
@@ -80,7 +83,7 @@ def own_equation(hypothesis, definitions, bound):
     left, right = (words[2], unwrapped(words[3])) if words[0] == '◌≡◌' and len(words) == 4 else (split(hypothesis, '≡') + ['', ''])[:2]
     head, *given = split(right, ' ') or ['']
     parts = left_parts(left)
-    parts = parts[parts[:1] != [] and parts[0] in ENUMS.values():]
+    parts = parts[1 + BEFORE[parts[0]]:] if parts[:1] and parts[0] in BEFORE else parts
     variables = [re.fullmatch(r'(?:word )?([^\s().]+)(?:\.\w+)?', part) for part in parts]
     if head not in definitions or not all(variables) or len(split(hypothesis, '≡')) > 2:
         return None

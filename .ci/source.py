@@ -4,9 +4,11 @@ from dataclasses import dataclass, field
 from functools import cached_property
 
 HEAD = re.compile(r'^( *)(?:(?:pub|unfoldable|abbrev) )*(?:(record|data) )?([^\s:(){}]+)(?=[ :({]|$)')
-# Functions stand at the left edge, methods one step in, in a block of their type.
-FUNCTION = re.compile(r'^( {4})?(pub )?(extern "C" )?fn (\w+)(.*?^(?(1) {4})\{?\})', re.S | re.M)
-BLOCK = re.compile(r'^(?:pub )?(?:impl|trait)\b(?:<[^>\n]*>)? (?:[^{\n]* for )?(\w+)', re.M)
+# Functions stand at the left edge, methods one step in, in a block of their type. A trait's method without a body ends at its first ';'.
+FUNCTION = re.compile(r'^( {4})?(pub )?(extern "C" )?fn (\w+)((?:(?!^(?(1) {4})\}|\{$).)*?(?<!\{);$|.*?^(?(1) {4})\{?\})', re.S | re.M)
+BLOCK = re.compile(r'^(?:pub )?(?:impl|trait)\b(?:<[^>\n]*>)? (?:[^{\n]* for )?\[?(\w+).*?^\}', re.S | re.M)
+# What a block says of its methods, as a conversion's from_gives.
+GHOST = re.compile(r'^ {4}ghost \w+ = \{ (.*) \};', re.M)
 CLAUSE = re.compile(r'\s*(requires|ensures|ghost)(\*?)(?: (\w+))? (?=\{)')
 # A line of crates.txt: a crate, words about it, and the libraries that it is made of.
 LISTED = re.compile(r'\s*(\w+)(?:\s+staticlib)?\s*:(.*)')
@@ -18,12 +20,12 @@ DATA = {
     'Bool': {'mathlib.Core.Bool', *PASSED_ON},
     'List': {'mathlib.Core.List', *PASSED_ON},
     'Size': {'Rattle.requests.specs.declared.Size'},
-    'Answer': {'Rattle.requests.specs.declared.Answer'},
-    'Opened': {'Rattle.matrix.specs.declared.opening.Opened'},
+    'Answer': {'Rattle.requests.specs.Answers'},
+    'Result': set(PASSED_ON),
+    'Reason': {'Rattle.requests.specs.declared.Reason'},
     'Turned': {'Rattle.matrix.specs.declared.turn.Turned'},
     'Job': {'Rattle.matrix.specs.declared.job.Job'},
     'Tallied': {'Rattle.matrix.specs.declared.tally.Tallied'},
-    'Header': {'Rattle.frames.specs.declared.header.Header'},
     'Matrix': {'Rattle.cells.specs.Digit'},
     'State': {'Rattle.steps.specs.Step'},
     'Step': {'Rattle.steps.specs.Step'},
@@ -31,7 +33,12 @@ DATA = {
     'Place': {'Rattle.steps.specs.Turn', 'Rattle.requests.specs.declared.Place'},
 }
 # What contracts and theorems are made of, beside their own definitions.
-HOMES = {**DATA, '◌≡◌': {'mathlib.Core.Path', *PASSED_ON}, 'word': {'Rattle.requests.specs.Answers'}}
+ANSWERS = {
+    **dict.fromkeys(('word', 'held', 'told'), {'Rattle.requests.specs.Answers'}),
+    'tally_told': {'Rattle.matrix.specs.Tally'},
+    'header_told': {'Rattle.frames.specs.Header'},
+}
+HOMES = {**DATA, **ANSWERS, '◌≡◌': {'mathlib.Core.Path', *PASSED_ON}}
 
 
 def split(text, mark):
@@ -58,6 +65,16 @@ def closed(text, at):
         if depth == 0:
             return i + 1
     return len(text)
+
+
+def generics(text):
+    """The '<..>' with which a text begins, if it does; an arrow closes nothing."""
+    depth = 0
+    for i, c in enumerate(text):
+        depth += (c == '<') - (c == '>' and text[i - 1] != '-')
+        if depth == 0:
+            return text[:i + 1] if i else ''
+    return ''
 
 
 def brought_in(text):
@@ -111,7 +128,7 @@ class Function:
     @classmethod
     def read(cls, text):
         """From what follows the name: '(a: T, ..) -> R', its clauses, each 'KIND { .. }' or 'KIND NAME { .. }', and the body; before it may stand '<..>'."""
-        start = text.index('(')
+        start = text.index('(', len(generics(text)))
         at = closed(text, start)
         parameters, clauses = text[start + 1:at - 1], []
         m = re.compile(r'\s*(?:-> *([^{\n]*?))?(?=\s*(?:\{|\n|$))').match(text, at)
@@ -185,16 +202,20 @@ class Source:
 
     @cached_property
     def read(self):
-        """Each function as (its name, a method's as TYPE.NAME, whether it is public, whether it is for C, what follows its name)."""
-        found, blocks = [], [(m.start(), m[1]) for m in BLOCK.finditer(self.text)]
+        """Each function as (its name, a method's as TYPE.NAME, whether it is public, whether it is for C, itself). What a trait's block says of a method
+        by a ghost member is a promise of the method, and makes it public: it is called by the trait."""
+        found, blocks = [], list(BLOCK.finditer(self.text))
         for m in FUNCTION.finditer('' if self.proof else self.text):
-            owner = [name for at, name in blocks if at < m.start()][-1:] if m[1] else []
-            found.append(('.'.join(owner + [m[4]]), bool(m[2]), bool(m[3]), m[5]))
+            owner = [block for block in blocks if block.start() < m.start() < block.end()] if m[1] else []
+            said = [('ensures', text) for block in owner for text in GHOST.findall(block[0])]
+            function = Function.read(m[5])
+            function.clauses += said
+            found.append(('.'.join([block[1] for block in owner] + [m[4]]), bool(m[2] or said), bool(m[3]), function))
         return found
 
     @cached_property
     def functions(self):
-        return {name: Function.read(text) for name, _, _, text in self.read}
+        return {name: function for name, _, _, function in self.read}
 
     @cached_property
     def public(self):
@@ -204,14 +225,9 @@ class Source:
     @cached_property
     def unread(self):
         """Public functions of a form that is not in use here, and functions of one name, of which one only would be read."""
-        found = [] if self.proof else re.findall(r'(?m)^.*\bpub\b(?!\().*\bfn (\w+)', self.text)
+        found = [] if self.proof else re.findall(r'(?m)^.*\bpub\b.*\bfn (\w+)', self.text)
         names = [name for name, _, _, _ in self.read]
         return sorted(set(found) - {name.split('.')[-1] for name in self.public} | {name for name in names if names.count(name) > 1})
-
-    @cached_property
-    def structs(self):
-        found = re.findall(r'(?m)^(?:pub )?struct (\w+) \{\n((?: .*\n)*)\}', self.text)
-        return {name: re.findall(r'(?m)^ +(?:pub )?(\w+):', fields) for name, fields in found}
 
     def origins(self, name):
         """The modules that the file has a name from, itself among them; something else under that name is shown with both."""
