@@ -13,8 +13,8 @@ HELD = {
     'Result<Job, Reason>': ['opened'],
     'Result<Turned, Reason>': ['turned'],
 }
-# How many things, none of them answered, each is handed before the result.
-BEFORE = {definition: len(given) for definition, *given in HELD.values()}
+# What each is handed before the result: it stands for what a refusal does not hold.
+BEFORE = {definition: given for definition, *given in HELD.values()}
 
 
 def outcome(function):
@@ -77,13 +77,36 @@ def contract_faults(function, definition):
     yield from compared('right', [unwrapped(part) for part in given], arguments(function))
 
 
+def told_faults(function, structs, equations):
+    """The definition in a request's contract that tells what it holds is one equation: the word, all that is held, as a whole or field by field, and then
+    what else it is handed."""
+    definition, *given = HELD[function.returns]
+    head, body = (split(equations[0], '=') + ['', ''])[:2] if len(equations) == 1 else ('', '')
+    answer, *rest = head.split(' ')[1 + len(given):] or ['']
+    found = leaves(body)
+    none = (re.findall(r'\bheld (\w+) ', body) or [''])[0]
+    fields = structs.get(function.returns[len('Result<'):-len(', Reason>')], [])
+    each = [f'(held {none} {answer}).{name}' for name in fields]
+    if fields:
+        for name, part in zip(fields, each):
+            if f'held {none} {answer}' not in found and part not in found:
+                yield f'{definition} says nothing of {name}'
+    if found not in ([f'word {answer}', *each, *rest], [f'word {answer}', f'held {none} {answer}', *rest]) or not (fields or given):
+        yield f'{definition} does not say in one equation the word, what is held and what else it is handed, each as it is'
+
+
 def own_equation(hypothesis, definitions, bound):
     """The parts on the left, the definition and its arguments, if this is an equation with one of the definitions of variables that all differ."""
     words = split(hypothesis, ' ')
     left, right = (words[2], unwrapped(words[3])) if words[0] == '◌≡◌' and len(words) == 4 else (split(hypothesis, '≡') + ['', ''])[:2]
     head, *given = split(right, ' ') or ['']
     parts = left_parts(left)
-    parts = parts[1 + BEFORE[parts[0]]:] if parts[:1] and parts[0] in BEFORE else parts
+    if parts[:1] and parts[0] in BEFORE:
+        before = BEFORE[parts[0]]
+        # Handed anything else, it says something that is false of every refusal.
+        if parts[1:1 + len(before)] != before:
+            return None
+        parts = parts[1 + len(before):]
     variables = [re.fullmatch(r'(?:word )?([^\s().]+)(?:\.\w+)?', part) for part in parts]
     if head not in definitions or not all(variables) or len(split(hypothesis, '≡')) > 2:
         return None

@@ -223,6 +223,16 @@ class Source:
         return {name: exported for name, public, exported, _ in self.read if public}
 
     @cached_property
+    def structs(self):
+        """The fields of each struct."""
+        found = re.findall(r'(?m)^(?:pub )?struct (\w+) \{\n((?:(?: .*)?\n)*)\}', self.text)
+        return {name: re.findall(r'(?m)^ +(?:pub )?(\w+):', fields) for name, fields in found}
+
+    def equations(self, name):
+        """What a definition is: its equations, each as one line."""
+        return [' '.join(text.split()) for text in re.findall(rf'(?m)^{re.escape(name)} .*\n(?: .*\n)*', self.text)]
+
+    @cached_property
     def unread(self):
         """Public functions of a form that is not in use here, and functions of one name, of which one only would be read."""
         found = [] if self.proof else re.findall(r'(?m)^.*\bpub\b.*\bfn (\w+)', self.text)
