@@ -63,13 +63,13 @@ module _ (u s n : ℕ) where
   padded_bit : (t : ℕ) → bit (bit_or u s / 2 ^ n) t ≡ max (bit u (n + t)) (bit s (n + t))
   padded_bit t = bit_shr (bit_or u s) n t ∙ bit_of_or u s (n + t)
 
-  padded_none : bit_or u s / 2 ^ n ≡ 0 → false ≡ any (64 - n) (λ t. ltb 0 (digit u s (n + t)))
+  pub padded_none : bit_or u s / 2 ^ n ≡ 0 → false ≡ any (64 - n) (λ t. ltb 0 (digit u s (n + t)))
   unfolding digit
   padded_none e =
       sym (any_none (λ t. ltb 0 (digit u s (n + t))) (64 - n)
       (λ t l. le-ltb 0 (bit u (n + t) + bit s (n + t)) (omega (arith, padded_bit t, ap (λ (w : ℕ). bit w t) e, bit_of_zero t))))
 
-  padded_some : u < 2 ^ 64 → s < 2 ^ 64 → (bit_or u s / 2 ^ n ≡ 0 → ⊥) → true ≡ any (64 - n) (λ t. ltb 0 (digit u s (n + t)))
+  pub padded_some : u < 2 ^ 64 → s < 2 ^ 64 → (bit_or u s / 2 ^ n ≡ 0 → ⊥) → true ≡ any (64 - n) (λ t. ltb 0 (digit u s (n + t)))
   unfolding digit
   padded_some hu hs ne =
       yes_unless (any (64 - n) (λ t. ltb 0 (digit u s (n + t)))) (bit_or u s / 2 ^ n) 64 (omega (arith, or_lt 64 u s hu hs, shr_le (bit_or u s) n)) ne

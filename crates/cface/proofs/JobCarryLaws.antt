@@ -125,7 +125,7 @@ module _ (x y : Size) (a b : List ℕ) (n : ℕ) (z : first (product_sizes x y (
       opening_left x y w a b t k product_none.0 product_none.1.1.0 (le-ltb 8 w (omega arith)) bytes_a bytes_b (rw (← meant_some x w (λ z. omega arith)) (not_unfit (table_size y w) t et)) (fits_words (product_size x y) n k bytes_out e)
       ∙ sym (past_none (product_sizes x y (length a) (length b) n) (pair_faults First Second x y (words_in a) (words_in b)) product_none)
 
-product_carried : (x y : Size) (k : ℕ) (a b out u v t w t' w' : List ℕ) (f : ℕ) (r : Answer) → first (product_sizes x y (length a) (length b) (length out)) ≡ 0 → 0 < k → k ≤ 7 → length t ≡ words (2 ^ k) y.columns → length out ≡ 8 * length w
+pub product_carried : (x y : Size) (k : ℕ) (a b out u v t w t' w' : List ℕ) (f : ℕ) (r : Answer) → first (product_sizes x y (length a) (length b) (length out)) ≡ 0 → 0 < k → k ≤ 7 → length t ≡ words (2 ^ k) y.columns → length out ≡ 8 * length w
     → u ≡ words_in a → v ≡ words_in b → f ≡ word r → (word r, (t', w')) ≡ product_means x y k u v t w → (f, left f out (bytes_of w')) ≡ product_face x y a b out
 unfolding product_means product_face
 product_carried x y k a b out u v t w t' w' f r z pos narrow table room eu ev e says =

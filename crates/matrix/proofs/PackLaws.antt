@@ -3,7 +3,7 @@ use mathlib.Core.Path.{◌≡◌, refl, sym, ap, ◌∙◌}
 use mathlib.Core.Bool.{Bool, true, false, ◌||◌}
 use mathlib.Core.List.{List}
 use Prim.Native.Nat.{ℕ, zero, suc, ◌+◌, ◌-◌, ◌*◌, ◌/◌, ◌%◌, ◌≤◌, ◌<◌, min, max}
-use native.Mathlib.Nat.{mul-le-mul_right, suc-mul, mul-zero, div-lt_iff_lt-mul, mod-lt, div-add-mod'}
+use native.Mathlib.Nat.{mul-le-mul, mul-le-mul_right, suc-mul, mul-zero, div-lt_iff_lt-mul, mod-lt, div-add-mod'}
 use native.Mathlib.Numerals.{add-one}
 use native.Mathlib.Decide.{dec_lt}
 use native.Mathlib.Omega.{arith}
@@ -32,6 +32,9 @@ use Rattle.matrix.specs.Pack.{above_first, above_at, pack_tests}
 use Rattle.std.specs.List.{between}
 use Rattle.std.proofs.lemmas.List.Edits.{length-between, get_or-between}
 use Rattle.matrix.proofs.GatherLaws.{up_in, up_out, up_cong}
+
+pub cells_le : (r c : ℕ) → r ≤ 1024 → c ≤ 1024 → r * c ≤ 1048576
+cells_le r c hr hc = mul-le-mul {n₂ = 1024} {m₂ = 1024} hr hc
 
 -- the cells of row i
 pub cells_in : (r c i : ℕ) → i < r → i * c + c ≤ r * c

@@ -1,20 +1,25 @@
 -- The rows of a transpose, made block by block, and the tests of `transpose`. Assumes nothing.
 use mathlib.Core.Path.{◌≡◌, sym, ap, ◌∙◌}
+use mathlib.Core.Bool.{or_comm}
 use mathlib.Core.List.{List}
 use Prim.Native.Nat.{ℕ, ◌+◌, ◌-◌, ◌*◌, ◌%◌, ◌≤◌, ◌<◌, min}
 use native.Mathlib.Nat.{add-mul, mul-le-mul}
 use native.Mathlib.Decide.{dec_lt}
 use native.Mathlib.Omega.{arith}
 use lib.Arith.{digits_mod}
+use lib.Dec.{ltb}
 use lib.ListN.{get_or}
 use Rattle.cells.specs.Bit.{bit, word_of}
 use Rattle.cells.specs.Pair.{WordPair}
 use Rattle.buffers.specs.Buffer.{planes, wide, words, unit, sign, cell, Legal, encode}
 use Rattle.buffers.proofs.SizeLaws.{planes_le, row_fits, bit_at_word, unit_small, sign_small}
 use Rattle.blocks64.specs.Block.{Spaced, transposed_word, Spread}
+use Rattle.requests.specs.declared.Size.{Size}
+use Rattle.requests.specs.Sizes.{over}
 use Rattle.rows.proofs.MatrixLaws.{RowsMade, rows_all, row_ends}
 use Rattle.matrix.specs.Gathered.{up_to}
 use Rattle.matrix.specs.RowBlocks.{column, WordMade, BlockMade}
+use Rattle.matrix.specs.Transpose.{transposed_size}
 use Rattle.matrix.proofs.GatherLaws.{up_in, up_out, gathered_holds}
 
 -- ---- the words of a block
@@ -100,3 +105,7 @@ transposed q r c a new e R =
     rows_all (λ j p. up_to (min 64 (r - 64 * p)) (λ t. cell c a (64 * p + t) j)) (λ i j. cell c a j i) q c r new e
     (λ i p t h m k l. up_in (min 64 (r - 64 * p)) (λ t. cell c a (64 * p + t) i) t (omega arith))
     (λ i p t h m k l. up_out (min 64 (r - 64 * p)) (λ t. cell c a (64 * p + t) i) t (omega arith)) R
+
+pub transposed_over : (s : Size) → over s ≡ over (transposed_size s)
+unfolding over
+transposed_over s = or_comm (ltb 1024 s.rows) (ltb 1024 s.columns)

@@ -175,6 +175,14 @@ unfolding of1
 more1 op q a x y j m n old mid new e h M N =
     made_count _ x q (j + m) n old new (sym e) (made_more _ _ x q j m old mid new (omega arith) (λ p t l. ap op (digit_at_later a y q j p t)) M N)
 
+-- .. and of two rows
+pub more2 : (op : ℕ → ℕ → ℕ) (q : ℕ) (a b : List ℕ) (x y z j m n : ℕ) (old mid new : List ℕ) → n ≡ j + m → n ≤ q
+    → Made (of2 op q a y b z) x q j old mid → Made (of2 op q a (y + j) b (z + j)) (x + j) q m mid new → Made (of2 op q a y b z) x q n old new
+unfolding of2
+more2 op q a b x y z j m n old mid new e h M N =
+    made_count _ x q (j + m) n old new (sym e)
+    (made_more _ _ x q j m old mid new (omega arith) (λ p t l. ap₂ op (digit_at_later a y q j p t) (digit_at_later b z q j p t)) M N)
+
 -- ---- in place: the pairs that are still to be read are as they were
 
 module _ {q n x y z : ℕ} {t b : List ℕ} (R : InPlace q n x y z t b) where

@@ -2,10 +2,12 @@
 use mathlib.Core.Path.{◌≡◌, refl, sym, ap, ◌∙◌}
 use mathlib.Core.List.{List, [], ◌∷◌, ◌++◌, append_assoc}
 use Prim.Native.Nat.{ℕ, ◌+◌, ◌-◌, ◌*◌, ◌≤◌}
+use native.Mathlib.Nat.{mul-le-mul}
 use native.Mathlib.Omega.{arith}
-use lib.ListN.{length, take, drop, length-append}
+use lib.ListN.{length, take, drop, length-append, length-take, length-drop}
 use borrow.Author.Tests.{le-ltb}
-use Rattle.buffers.specs.Buffer.{tab}
+use Rattle.buffers.specs.Buffer.{planes, wide, tab}
+use Rattle.buffers.proofs.SizeLaws.{planes_le}
 use Rattle.requests.specs.declared.Size.{Size}
 use Rattle.requests.specs.Answers.{first, left, answered}
 use Rattle.requests.specs.Sizes.{over}
@@ -33,10 +35,23 @@ unfolding frames_of hex_of tab
 frames_long s ws total =
     length-append (header_of s) _ ∙ omega (arith, header_long s, length-append (lines_of s.rows s.columns ws) (hex_of 8 total ++ (10 ∷ [])), lines_long s.rows s.columns ws)
 
+-- no overflow on the way, beyond the limit too
+pub frames_room : (r c q : ℕ) → r ≤ 1024 → c ≤ 1024 → q ≡ planes c → (q ≤ 16) × (r * (2 * q * 16 + 1) ≤ 525312) × (r * (2 * q * 16 + 1) ≡ r * line_long c)
+unfolding line_long wide
+frames_room r c q few narrow e =
+    let h : q ≤ 16 = omega (arith, planes_le c narrow) in
+    (h, mul-le-mul {n₂ = 1024} {m₂ = 513} few (omega arith), ap (λ (p : ℕ). r * (2 * p * 16 + 1)) e)
+
 module _ (s : Size) (ws : List ℕ) (total e : ℕ) (out head lines line : List ℕ) (size : e ≡ 9 + s.rows * line_long s.columns) (h : head ≡ header_of s) where
   head_laid : head ++ drop 9 out ≡ laid (header_of s) out
   unfolding laid
   head_laid = rw h (ap (λ (n : ℕ). header_of s ++ drop n out) (sym (header_long s)))
+
+  -- what is lent for the lines is as long as they are
+  pub lines_fit : 9 + s.rows * line_long s.columns ≤ length out → length (take (e - 9) (drop 9 (head ++ drop 9 out))) ≡ s.rows * line_long s.columns
+  lines_fit room =
+      length-take (e - 9) (drop 9 (head ++ drop 9 out))
+      ∙ omega (arith, size, length-drop 9 (head ++ drop 9 out), length-append head (drop 9 out), length-drop 9 out, ap length h ∙ header_long s)
 
   module _ (g : lines ≡ lines_of s.rows s.columns ws) (f : line ≡ hex_of 8 total ++ (10 ∷ [])) where
     abbrev two : List ℕ

@@ -5,13 +5,17 @@ use mathlib.Core.List.{List, [], ◌∷◌, ◌++◌, append_assoc, append-nil}
 use Prim.Native.Nat.{ℕ, zero, suc, ◌+◌, ◌*◌, ◌≤◌, ◌<◌}
 use native.Mathlib.Omega.{arith}
 use lib.Dec.{ltb}
-use lib.ListN.{length, take, drop, length-append, drop_of_length-le}
+use lib.ListN.{length, take, drop, length-append, length-drop, drop_of_length-le}
 use lib.Seq.{take_at, drop_at, drop-drop}
 use borrow.Author.Tests.{lt-ltb, le-ltb}
 use Rattle.buffers.specs.Buffer.{tab, joined}
 use Rattle.buffers.proofs.BufferLaws.{length_joined}
 use Rattle.hexadecimal.specs.Line.{hex_of}
 use Rattle.texts.specs.Multiply.{refusal, laid, placed}
+
+pub laid_length : (text out : List ℕ) → length text ≤ length out → length (laid text out) ≡ length out
+unfolding laid
+laid_length text out h = length-append text (drop (length text) out) ∙ omega (arith, length-drop (length text) out)
 
 pub laid_all : (text out : List ℕ) → length text ≡ length out → laid text out ≡ text
 unfolding laid

@@ -7,7 +7,7 @@ use native.Mathlib.Nat.{suc-mul, mul-le-mul, mul-le-mul_right}
 use native.Mathlib.Omega.{arith}
 use lib.Dec.{ltb}
 use lib.ListN.{length, get_or, take, drop, length-append, length-take, length-drop}
-use lib.Seq.{take_all}
+use lib.Seq.{take_all, drop-drop}
 use Rattle.std.specs.Prelude.{Result, Ok, Err, IfOk, IsOk}
 use Rattle.requests.specs.declared.Reason.{Reason}
 use borrow.Author.Tests.{ltb-false, le-ltb, ne_eqb, eq-eqb}
@@ -127,6 +127,10 @@ tail text n h = take_all (length text - n) (drop n text) (omega (arith, length-d
 pub part_long : (xs : List ℕ) (at k n : ℕ) → k ≡ n → at + n ≤ length xs → length (take k (drop at xs)) ≡ n
 part_long xs at k n e h = length-take k (drop at xs) ∙ omega (arith, e, length-drop at xs)
 
+pub line_at_lem : (c : ℕ) (text : List ℕ) (start i : ℕ) → line_at c (drop start text) i ≡ take (line_long c) (drop (start + i * line_long c) text)
+unfolding line_at
+line_at_lem c text start i = ap (λ (l : List ℕ). take (line_long c) l) (drop-drop (i * line_long c) start text)
+
 -- line i, as the code has it
 pub line_is : (c : ℕ) (text : List ℕ) (i line : ℕ) → line ≡ line_long c → i * line ≤ length text → take (line_long c) (take (length text - i * line) (drop (i * line) text)) ≡ line_at c text i
 unfolding line_at
@@ -222,6 +226,12 @@ pub line_room : (i r c line n : ℕ) → line ≡ line_long c → n ≡ r * line
 line_room i r c line n e f l = rw (e, f) (part_within i r (line_long c) l)
 
 -- within the limit
+pub few_words : (r c q : ℕ) → r ≤ 128 → c ≤ 128 → q ≡ planes c → (q ≤ 2) × (r * (2 * q) ≤ 512) × (r * (2 * q * 16 + 1) ≤ 8320)
+unfolding planes
+few_words r c q few narrow e =
+    let h : q ≤ 2 = omega arith in
+    (h, mul-le-mul {n₂ = 128} {m₂ = 4} few (omega arith), mul-le-mul {n₂ = 128} {m₂ = 65} few (omega arith))
+
 pub limit_words : (r c : ℕ) → r ≤ 128 → c ≤ 128 → r * wide c ≤ 512
 unfolding wide planes
 limit_words r c few narrow = mul-le-mul {n₂ = 128} {m₂ = 4} few (omega arith)
