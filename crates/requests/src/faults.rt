@@ -1,6 +1,7 @@
 // The two faults of a buffer of the right length: any stray sign comes before any padding bit. A legal buffer is read fast, and only where something is
 // wrong is its place looked for.
 ghost use Rattle.std.specs.Prelude.{◌≡◌, false, length};
+ghost use Rattle.buffers.specs.Fault.{stray};
 ghost use Rattle.requests.specs.Answers.{word, first};
 ghost use Rattle.requests.specs.Sizes.{over, unfit};
 ghost use Rattle.requests.specs.Faults.{faults, pair_faults};
@@ -21,6 +22,14 @@ pub fn fault(n: Buffer, s: Size, a: &[u64]) -> Result<(), Reason>
     let Some(from) = lent.suspect() else {
         return Ok(());
     };
+    found(n, &lent, from)
+}
+
+// The same, by a row before which no sign is stray. A legal buffer does not come here.
+fn found(n: Buffer, lent: &Lent, from: usize) -> Result<(), Reason>
+    requires { stray from lent.now.columns lent.now.words.now ≡ false }
+    ensures { word result ≡ first (faults n (record { rows = lent.now.rows; columns = lent.now.columns }) lent.now.words.now) }
+{
     if let Some(row) = lent.first::<Stray>(from) {
         return Err(Reason::StraySign(lent.place::<Stray>(n, row)));
     }
