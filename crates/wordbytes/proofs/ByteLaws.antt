@@ -12,6 +12,8 @@ use Rattle.std.specs.Int.{w64, to_le_bytes, from_le_bytes}
 use lib.Seq.{get_or-set_same, get_or-set_other, ext_get_or}
 use Rattle.buffers.specs.Buffer.{Words, tab}
 use Rattle.buffers.proofs.BufferLaws.{length_tab, get_d_tab}
+use Rattle.rows.specs.Row.{Written}
+use Rattle.rows.proofs.RowLaws.{written_none, written_next}
 use Rattle.wordbytes.specs.Bytes.{byte_of, value_of, words_in, bytes_of}
 
 -- ---- one word
@@ -51,6 +53,21 @@ own_byte w (suc (suc (suc (suc (suc (suc (suc zero))))))) l = refl
 own_byte w (suc (suc (suc (suc (suc (suc (suc (suc k)))))))) l = absurd (omega arith)
 
 -- ---- the number that bytes say
+
+pub four_bytes : (bs : List ℕ) (x : ℕ) → value_of bs x 4 ≡ get_or bs x 0 + 256 * get_or bs (x + 1) 0 + 65536 * get_or bs (x + 2) 0 + 16777216 * get_or bs (x + 3) 0
+unfolding value_of
+four_bytes bs x =
+    let a : x + 1 ≡ suc x = omega arith in
+    let b : x + 2 ≡ suc (suc x) = omega arith in
+    let d : x + 3 ≡ suc (suc (suc x)) = omega arith in
+    rw (a, b, d) (omega arith)
+
+-- eight bytes are four, and four above them
+pub two_fours : (bs : List ℕ) (x : ℕ) → value_of bs x 8 ≡ value_of bs x 4 + 4294967296 * value_of bs (x + 4) 4
+unfolding value_of
+two_fours bs x =
+    let a : x + 4 ≡ suc (suc (suc (suc x))) = omega arith in
+    rw a (omega arith)
 
 -- std's number of eight bytes
 pub eight_bytes : (bs : List ℕ) (x n : ℕ) (eight : List ℕ) (w : ℕ) → n ≡ 8 → eight ≡ take n (drop x bs) → w ≡ from_le_bytes w64 eight → w ≡ value_of bs x 8
@@ -172,3 +189,13 @@ bytes_words bs n small long = sym (written_all (words_in bs) bs (omega (arith, w
     at i l =
         let e : 8 * (i / 8) + i % 8 ≡ i = omega arith in
         ap (λ (w : ℕ). byte_of w (i % 8)) (word_at_lem bs (i / 8) (omega arith)) ∙ byte_value bs (8 * (i / 8)) 8 small (i % 8) (omega arith) ∙ ap (λ (j : ℕ). get_or bs j 0) e
+
+-- ---- stores
+
+pub two_written : (w x : ℕ) (old : List ℕ) → x + 2 ≤ length old → Written (byte_of w) x 2 old (set (set old x (w % 256)) (x + 1) (w / 2 ^ 8 % 256))
+unfolding byte_of
+two_written w x old room =
+    let a : x + 0 ≡ x = omega arith in
+    let one : Written (byte_of w) x 1 old (set old (x + 0) (w % 256)) = written_next (byte_of w) x 0 old old (w % 256) (omega arith) (omega arith) (written_none (byte_of w) x old) in
+    let two : Written (byte_of w) x 2 old (set (set old (x + 0) (w % 256)) (x + 1) (w / 2 ^ 8 % 256)) = written_next (byte_of w) x 1 old (set old (x + 0) (w % 256)) (w / 2 ^ 8 % 256) (omega (arith, one.long)) refl one in
+    rw a at two

@@ -11,4 +11,4 @@ overflow_sub-l c = omega (arith, blocks_within _ _ _ c.requires.1 c.requires.3)
 
 pub returns : goal.returns
 unfolding block_width
-returns c = c.min.ensures
+returns c = omega (arith, c.min.ensures)
