@@ -36,7 +36,7 @@ pub fn piece<const D: u64>(
     if left.budget == 0 {
         return left;
     }
-    row_step::<D>(product, table, factors, i, x);
+    row_step::<D>(product, table, factors, factors.b.plane, i, x);
     Left {
         skip: 0,
         budget: left.budget - 1,

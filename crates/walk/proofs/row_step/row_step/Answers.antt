@@ -1,4 +1,4 @@
-use mathlib.Core.Path.{refl}
+use mathlib.Core.Path.{refl, ◌∙◌}
 use Prim.Native.Nat.{◌*◌}
 use native.Mathlib.Nat.{mul-le-mul}
 use native.Mathlib.Omega.{arith}
@@ -17,28 +17,28 @@ returns-then-x-eq0 g c =
 pub overflow_mul-wide : goal.overflow_mul-wide
 overflow_mul-wide g c =
     let f = c.args.factors.now in
-    omega (arith, f.b.whole_plane, planes_le _ f.b.few_columns)
+    omega (arith, c.requires.5, f.b.whole_plane, planes_le _ f.b.few_columns)
 
 pub overflow_mul-at : goal.overflow_mul-at
 overflow_mul-at g c =
     let f = c.args.factors.now in
-    omega (arith, row_fits _ _ c.args.i _ _ f.b.whole_plane c.requires.0.product.long c.requires.1, words_le _ _ f.a.few_rows f.b.few_columns)
+    omega (arith, row_fits _ _ c.args.i _ _ (c.requires.5 ∙ f.b.whole_plane) c.requires.0.product.long c.requires.1, words_le _ _ f.a.few_rows f.b.few_columns)
 
 pub overflow_mul-from : goal.overflow_mul-from
 overflow_mul-from g c =
     let f = c.args.factors.now in
-    omega (arith, mul-le-mul {n₁ = c.args.x} {m₁ = 2 * f.b.plane} {n₂ = 256} {m₂ = 32} (omega (arith, c.requires.2, pow_small f.width f.narrow)) (omega (arith, f.b.whole_plane, planes_le _ f.b.few_columns)))
+    omega (arith, mul-le-mul {n₁ = c.args.x} {m₁ = 2 * c.args.q} {n₂ = 256} {m₂ = 32} (omega (arith, c.requires.2, pow_small f.width f.narrow)) (omega (arith, c.requires.5, f.b.whole_plane, planes_le _ f.b.few_columns)))
 
 pub accumulate-requires : goal.accumulate-requires
 accumulate-requires g c =
     let f = c.args.factors.now in (
-      row_readable _ _ c.args.i _ _ f.b.whole_plane c.requires.0.product (λ n. omega (arith, c.slice_known-1.given n)) c.requires.1,
-      row_readable _ _ c.args.x _ _ f.b.whole_plane c.requires.0.table (λ n. omega (arith, c.type_inv.table n)) c.requires.2,
+      row_readable _ _ c.args.i _ _ (c.requires.5 ∙ f.b.whole_plane) c.requires.0.product (λ n. omega (arith, c.slice_known-1.given n)) c.requires.1,
+      row_readable _ _ c.args.x _ _ (c.requires.5 ∙ f.b.whole_plane) c.requires.0.table (λ n. omega (arith, c.type_inv.table n)) c.requires.2,
       omega arith,
     )
 
 pub returns : goal.returns
 returns g c =
     let f = c.args.factors.now in
-    row_step_made f.width f.a.rows f.b.columns f.b.plane f.b.whole_plane c.requires.0.table (λ n. omega (arith, c.type_inv.table n)) c.requires.0.product (λ n. omega (arith, c.slice_known-1.given n))
+    row_step_made f.width f.a.rows f.b.columns c.args.q (c.requires.5 ∙ f.b.whole_plane) c.requires.0.table (λ n. omega (arith, c.type_inv.table n)) c.requires.0.product (λ n. omega (arith, c.slice_known-1.given n))
     c.args.i g.row.D c.args.x c.requires.1 (omega arith) c.requires.2 c.accumulate.ensures

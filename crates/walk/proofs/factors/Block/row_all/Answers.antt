@@ -19,7 +19,7 @@ row_step-requires g c =
     let block = c.args.self.now in
     let f = block.factors in
     let A = matrix_of f.a in
-    (c.requires.0, c.requires.1, omega (arith, c.bits-bits.ensures.0, bits_lt 1 (A c.args.i) block.width block.start, pow_mono block.narrow), omega arith, omega arith)
+    (c.requires.0, c.requires.1, omega (arith, c.bits-bits.ensures.0, bits_lt 1 (A c.args.i) block.width block.start, pow_mono block.narrow), omega arith, omega arith, c.requires.3)
 
 pub row_step-requires-2 : goal.row_step-requires-2
 row_step-requires-2 g c =
@@ -27,7 +27,7 @@ row_step-requires-2 g c =
     let f = block.factors in
     let A = matrix_of f.a in
     let zero : Matrix = λ i j. 0 in
-    (record { table = c.requires.0.table; product = ran_product f.width f.a.rows f.b.columns zero _ _ _ _ _ (c.row_step.ensures zero) }, c.requires.1, omega (arith, c.bits-bits.ensures.1, bits_lt 2 (A c.args.i) block.width block.start, pow_mono block.narrow), omega arith, omega arith)
+    (record { table = c.requires.0.table; product = ran_product f.width f.a.rows f.b.columns zero _ _ _ _ _ (c.row_step.ensures zero) }, c.requires.1, omega (arith, c.bits-bits.ensures.1, bits_lt 2 (A c.args.i) block.width block.start, pow_mono block.narrow), omega arith, omega arith, c.requires.3)
 
 pub returns : goal.returns
 unfolding row_steps

@@ -20,7 +20,7 @@ loop-i-init g c =
     }
 
 pub row_all-requires : goal.row_all-requires
-row_all-requires g c = (c.loop-i.invariant.sized, omega arith, c.requires.1)
+row_all-requires g c = (c.loop-i.invariant.sized, omega arith, c.requires.1, c.requires.2)
 
 pub loop-i-preserved : goal.loop-i-preserved
 loop-i-preserved g c =

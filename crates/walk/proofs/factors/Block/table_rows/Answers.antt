@@ -12,7 +12,7 @@ use Rattle.walk.specs.Factors.{RanFor, matrix_of}
 use Rattle.walk.proofs.PieceLaws.{each_last}
 use Rattle.walk.proofs.RanLaws.{ran_none, ran_more, ran_table}
 use native.Mathlib.Omega.{arith}
-use Rattle.walk.proofs.factors.Block.table_part.Goals as goal
+use Rattle.walk.proofs.factors.Block.table_rows.Goals as goal
 
 pub loop-x-init : goal.loop-x-init
 loop-x-init c =
@@ -24,7 +24,7 @@ loop-x-init c =
     }
 
 pub step-requires : goal.step-requires
-step-requires c = (c.loop-x.invariant.legal, omega arith, omega arith)
+step-requires c = (c.loop-x.invariant.legal, omega arith, omega arith, c.requires.4)
 
 pub loop-x-preserved : goal.loop-x-preserved
 loop-x-preserved c =

@@ -4,7 +4,7 @@ use Rattle.buffers.specs.Buffer.{Legal, Words}
 use Rattle.steps.specs.Step.{table_step}
 use Rattle.steps.specs.StepList.{each}
 use Rattle.walk.specs.Factors.{RanFor, matrix_of}
-use Rattle.walk.proofs.factors.Block.table_part.Given as goal
+use Rattle.walk.proofs.factors.Block.table_rows.Given as goal
 
 abbrev pub invariant-loop-x : goal.invariant-loop-x
 invariant-loop-x l =
