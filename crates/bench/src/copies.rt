@@ -1,7 +1,7 @@
 // Bytes copied to words, and words to bytes, as a call of the C face does.
 ghost use Rattle.std.specs.Prelude.{◌≡◌, true, ◌*◌, length};
 
-use wordbytes::bytes::{bytes_of, words_in_two};
+use wordbytes::bytes::{bytes_of, words_in};
 
 fn fits(bytes: &[u8], words: &[u64]) -> bool
     ensures { result ≡ true → length bytes.now ≡ 8 * length words.now }
@@ -21,7 +21,8 @@ pub extern "C" fn bench_copies(
     if !fits(a, u) || !fits(b, v) || !fits(out, u) {
         return 4;
     }
-    words_in_two(a, b, u, v);
+    words_in(a, u);
+    words_in(b, v);
     bytes_of(u, out);
     0
 }

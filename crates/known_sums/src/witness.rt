@@ -29,15 +29,15 @@ fn totals(rt: &impl Print, s: Size, a: &[u64]) -> io::Result<()> {
     println!(rt; "  widths at which it is the quote: {met:08}")
 }
 
-// Without a heap there is room for the most cells and words that these sizes may have, of which a part is lent.
-fn of_size(rt: &impl Print, rows: usize, columns: usize) -> io::Result<()>
-    requires { (0 < columns) × («rows» * columns ≤ 2048) }
+// Without a heap there is room for the most cells and words that these sizes have, of which a part is lent.
+fn of_size(rt: &impl Print, rows: usize, columns: usize, words: usize) -> io::Result<()>
+    requires { (0 < columns) × («rows» * columns ≤ 2048) × (words ≤ 64) }
 {
     let mut cells = [0; 2048];
     let cells = &mut cells[..rows * columns];
     fill(cells, columns);
-    let mut a = [0; 4096];
-    let a = &mut a[..rows * (2 * columns.div_ceil(64))];
+    let mut a = [0; 64];
+    let a = &mut a[..words];
     let s = Size {
         rows: rows as u64,
         columns: columns as u64,
@@ -51,8 +51,8 @@ fn of_size(rt: &impl Print, rows: usize, columns: usize) -> io::Result<()>
 }
 
 pub fn quotes_met(rt: &impl Print) -> io::Result<()> {
-    for (rows, columns) in [(3, 64), (3, 65), (5, 130), (2, 1024)] {
-        of_size(rt, rows, columns)?;
+    for (rows, columns, words) in [(3, 64, 6), (3, 65, 12), (5, 130, 30), (2, 1024, 64)] {
+        of_size(rt, rows, columns, words)?;
     }
     Ok(())
 }
