@@ -87,10 +87,9 @@ def told_faults(function, structs, equations):
     none = (re.findall(r'\bheld (\w+) ', body) or [''])[0]
     fields = structs.get(function.returns[len('Result<'):-len(', Reason>')], [])
     each = [f'(held {none} {answer}).{name}' for name in fields]
-    if fields:
-        for name, part in zip(fields, each):
-            if f'held {none} {answer}' not in found and part not in found:
-                yield f'{definition} says nothing of {name}'
+    for name, part in zip(fields, each):
+        if f'held {none} {answer}' not in found and part not in found:
+            yield f'{definition} says nothing of {name}'
     if found not in ([f'word {answer}', *each, *rest], [f'word {answer}', f'held {none} {answer}', *rest]) or not (fields or given):
         yield f'{definition} does not say in one equation the word, what is held and what else it is handed, each as it is'
 
