@@ -1,4 +1,5 @@
 // Matrices of no columns, and of no rows, in every request.
+use super::line::line;
 use matrix::check::check;
 use matrix::combination::combination;
 use matrix::negation::negation;
@@ -36,7 +37,7 @@ pub fn matrices(rt: &impl Print) -> io::Result<()> {
         ("transpose 5 by 0", transpose(FLAT, &[], &mut [])),
         ("transpose 0 by 70", transpose(THIN, &[], &mut [])),
     ] {
-        println!(rt; "{label}: {:08}", number(answer))?;
+        line(rt, label, number(answer))?;
     }
     Ok(())
 }
@@ -46,7 +47,7 @@ pub fn bytes(rt: &impl Print) -> io::Result<()> {
         ("pack 5 by 0", pack(FLAT, &[], &mut [])),
         ("unpack 5 by 0", unpack(FLAT, &[], &mut [])),
     ] {
-        println!(rt; "{label}: {:08}", number(answer))?;
+        line(rt, label, number(answer))?;
     }
     Ok(())
 }

@@ -1,5 +1,6 @@
 // Quotes, and jobs of no column in A or in B.
 use super::SAMPLE;
+use super::line::line;
 use matrix::job::Job;
 use matrix::opening::opening;
 use matrix::product::product;
@@ -14,12 +15,17 @@ pub fn quotes(rt: &impl Print) -> io::Result<()> {
         rows: 1024,
         columns: 1024,
     };
-    println!(rt;
-        "quote 1024 by 1024, width 2: {:08}",
-        quote(largest, 2).unwrap_or(0)
+    line(
+        rt,
+        "quote 1024 by 1024, width 2",
+        quote(largest, 2).unwrap_or(0),
     )?;
     for width in [8, 9] {
-        println!(rt; "quote, width {width}: {:08}", number(quote(SAMPLE, width)))?;
+        line(
+            rt,
+            format_args!("quote, width {width}"),
+            number(quote(SAMPLE, width)),
+        )?;
     }
     Ok(())
 }
@@ -36,13 +42,10 @@ pub fn no_middle(rt: &impl Print) -> io::Result<()> {
     };
     let mut table = [5; 32];
     let mut out = [7; 4];
-    println!(rt; "total, l = 0: {:08}", total(a, 4, &[]).unwrap_or(0))?;
+    line(rt, "total, l = 0", total(a, 4, &[]).unwrap_or(0))?;
     let answer = product(a, b, 4, &[], &[], &mut table, &mut out);
-    println!(rt; "product, l = 0: {:08}", number(answer))?;
-    println!(rt;
-        "its words together: {:08}",
-        out[0] | out[1] | out[2] | out[3]
-    )
+    line(rt, "product, l = 0", number(answer))?;
+    line(rt, "its words together", out[0] | out[1] | out[2] | out[3])
 }
 
 // B has no column: the sample's A at width 2.
@@ -54,12 +57,12 @@ pub fn no_columns(rt: &impl Print) -> io::Result<()> {
     };
     match opening(SAMPLE, b, 2, &a, &[], &mut [], &mut []) {
         Ok(job) => {
-            println!(rt; "opening, n = 0: {:08}", job.done)?;
+            line(rt, "opening, n = 0", job.done)?;
             let next = one_turn(rt, job, &a)?;
             one_turn(rt, next, &a)?;
             Ok(())
         }
-        refused => println!(rt; "opening, n = 0, refused: {:08}", number(refused)),
+        refused => line(rt, "opening, n = 0, refused", number(refused)),
     }
 }
 
@@ -67,13 +70,13 @@ pub fn no_columns(rt: &impl Print) -> io::Result<()> {
 fn one_turn(rt: &impl Print, job: Job, a: &[u64]) -> io::Result<Job> {
     match turn(job, a, &[], &mut [], &mut [], 5) {
         Ok(turned) => {
-            println!(rt; "steps of a turn with budget 5: {:08}", turned.made)?;
-            println!(rt; "steps done: {:08}", turned.job.done)?;
-            println!(rt; "finished: {:08}", u64::from(turned.finished))?;
+            line(rt, "steps of a turn with budget 5", turned.made)?;
+            line(rt, "steps done", turned.job.done)?;
+            line(rt, "finished", u64::from(turned.finished))?;
             Ok(turned.job)
         }
         refused => {
-            println!(rt; "turn, n = 0, refused: {:08}", number(refused))?;
+            line(rt, "turn, n = 0, refused", number(refused))?;
             Ok(job)
         }
     }

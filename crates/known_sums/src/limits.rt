@@ -1,4 +1,5 @@
 // Where sizes and padding begin to be refused.
+use super::line::line;
 use matrix::check::check;
 use requests::{Size, number};
 use std::io;
@@ -6,11 +7,11 @@ use std::io;
 pub fn sizes(rt: &impl Print) -> io::Result<()> {
     for rows in [1024, 1025] {
         let answer = check(Size { rows, columns: 0 }, &[]);
-        println!(rt; "{rows} rows: {:08}", number(answer))?;
+        line(rt, format_args!("{rows} rows"), number(answer))?;
     }
     for columns in [1024, 1025] {
         let answer = check(Size { rows: 0, columns }, &[]);
-        println!(rt; "{columns} columns: {:08}", number(answer))?;
+        line(rt, format_args!("{columns} columns"), number(answer))?;
     }
     Ok(())
 }
@@ -21,7 +22,7 @@ pub fn padding(rt: &impl Print) -> io::Result<()> {
         columns: 64,
     };
     let answer = check(full, &[u64::MAX, 0]);
-    println!(rt; "64 columns, all ones: {:08}", number(answer))?;
+    line(rt, "64 columns, all ones", number(answer))?;
     let longer = Size {
         rows: 1,
         columns: 65,
@@ -31,7 +32,11 @@ pub fn padding(rt: &impl Print) -> io::Result<()> {
         ("bit 1 of word 1", [0, 2, 0, 0]),
         ("its sign", [0, 0, 0, 2]),
     ] {
-        println!(rt; "65 columns, {what}: {:08}", number(check(longer, &words)))?;
+        line(
+            rt,
+            format_args!("65 columns, {what}"),
+            number(check(longer, &words)),
+        )?;
     }
     Ok(())
 }

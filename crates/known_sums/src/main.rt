@@ -5,6 +5,7 @@
 mod empty;
 mod jobs;
 mod limits;
+mod line;
 mod places;
 mod tallies;
 mod widths;

@@ -1,5 +1,6 @@
 // Refusals and their places: number, buffer (from 1), row and column (from 0), as their word has them. A refused scale or digit has no place.
 use super::SAMPLE;
+use super::line::line;
 use matrix::check::check;
 use matrix::combination::combination;
 use matrix::job::Job;
@@ -10,10 +11,10 @@ use std::io;
 
 fn place<T: Copy>(rt: &impl Print, label: &str, answer: Result<T, Reason>) -> io::Result<()> {
     let w = word(answer);
-    println!(rt; "{label}: {:08}", w % 256)?;
-    println!(rt; "  buffer: {:08}", w / 256 % 256)?;
-    println!(rt; "  row: {:08}", w / 65536 % 65536)?;
-    println!(rt; "  column: {:08}", w / 4294967296)
+    line(rt, label, w % 256)?;
+    line(rt, "  buffer", w / 256 % 256)?;
+    line(rt, "  row", w / 65536 % 65536)?;
+    line(rt, "  column", w / 4294967296)
 }
 
 // Ten rows of three columns: a padding bit in row 0, and a stray sign in row 9, which comes first all the same.

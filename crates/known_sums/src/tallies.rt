@@ -2,6 +2,7 @@
 // the low one.
 ghost use Rattle.std.specs.Prelude.{◌<◌, ◌≤◌, length};
 
+use super::line::line;
 use matrix::pack::pack;
 use requests::{Size, number};
 use std::fmt::Display;
@@ -14,13 +15,13 @@ pub fn tally(
     row: &[u64],
 ) -> io::Result<()> {
     let answer = matrix::tally::tally(columns, row);
-    println!(rt; "{label}: {:08}", number(answer))?;
+    line(rt, label, number(answer))?;
     if let Ok(tallied) = answer {
         let [zeros, ones, twos] = tallied.counts;
-        println!(rt; "  zeros: {zeros:08}")?;
-        println!(rt; "  ones: {ones:08}")?;
-        println!(rt; "  twos: {twos:08}")?;
-        println!(rt; "  balanced: {:08}", u64::from(tallied.balanced))?;
+        line(rt, "  zeros", zeros)?;
+        line(rt, "  ones", ones)?;
+        line(rt, "  twos", twos)?;
+        line(rt, "  balanced", u64::from(tallied.balanced))?;
     }
     Ok(())
 }

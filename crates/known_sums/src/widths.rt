@@ -1,5 +1,6 @@
 // Quotes at every width, and the width that 0 means.
 use super::SAMPLE;
+use super::line::line;
 use matrix::quote::quote;
 use matrix::width::width;
 use requests::{Size, number};
@@ -7,9 +8,10 @@ use std::io;
 
 pub fn quotes(rt: &impl Print) -> io::Result<()> {
     for width in [1, 2, 3, 4, 5, 6, 7, 8, 0] {
-        println!(rt;
-            "quote 2 by 3, width {width}: {:08}",
-            quote(SAMPLE, width).unwrap_or(0)
+        line(
+            rt,
+            format_args!("quote 2 by 3, width {width}"),
+            quote(SAMPLE, width).unwrap_or(0),
         )?;
     }
     Ok(())
@@ -17,7 +19,11 @@ pub fn quotes(rt: &impl Print) -> io::Result<()> {
 
 fn meant(rt: &impl Print, rows: u64, columns: u64) -> io::Result<()> {
     let width = width(Size { rows, columns }, 0).unwrap_or(0);
-    println!(rt; "width 0 means, {rows} by {columns}: {width:08}")
+    line(
+        rt,
+        format_args!("width 0 means, {rows} by {columns}"),
+        width,
+    )
 }
 
 pub fn squares(rt: &impl Print) -> io::Result<()> {
@@ -41,7 +47,7 @@ pub fn asked(rt: &impl Print) -> io::Result<()> {
         rows: 2,
         columns: 1025,
     };
-    println!(rt; "width 5 means: {:08}", width(SAMPLE, 5).unwrap_or(0))?;
-    println!(rt; "width 9: {:08}", number(width(SAMPLE, 9)))?;
-    println!(rt; "width of 1025 columns: {:08}", number(width(large, 9)))
+    line(rt, "width 5 means", width(SAMPLE, 5).unwrap_or(0))?;
+    line(rt, "width 9", number(width(SAMPLE, 9)))?;
+    line(rt, "width of 1025 columns", number(width(large, 9)))
 }

@@ -1,6 +1,7 @@
 // The witness of the quote at sizes around the ends of words: packed, and its totals, each of which is the quote.
 ghost use Rattle.std.specs.Prelude.{◌*◌, ◌≤◌, ◌<◌};
 
+use super::line::line;
 use matrix::pack::pack;
 use matrix::quote::quote;
 use matrix::total::total;
@@ -21,32 +22,49 @@ fn totals(rt: &impl Print, s: Size, a: &[u64]) -> io::Result<()> {
     let mut met: u64 = 0;
     for width in 1..=8 {
         let steps = total(s, width, a);
-        println!(rt; "  total, width {width}: {:08}", steps.unwrap_or(0))?;
+        line(
+            rt,
+            format_args!("  total, width {width}"),
+            steps.unwrap_or(0),
+        )?;
         if steps == quote(s, width) {
             met += 1;
         }
     }
-    println!(rt; "  widths at which it is the quote: {met:08}")
+    line(rt, "  widths at which it is the quote", met)
 }
 
-// Without a heap there is room for the most cells and words that these sizes have, of which a part is lent.
-fn of_size(rt: &impl Print, rows: usize, columns: usize, words: usize) -> io::Result<()>
-    requires { (0 < columns) × («rows» * columns ≤ 2048) × (words ≤ 64) }
+// The witness of the size, packed: the number that comes back. Its room for the most cells that these sizes have is given back before anything is printed.
+#[inline(never)]
+fn packed(rows: usize, columns: usize, a: &mut [u64]) -> u64
+    requires { (0 < columns) × («rows» * columns ≤ 2048) }
 {
     let mut cells = [0; 2048];
     let cells = &mut cells[..rows * columns];
     fill(cells, columns);
-    let mut a = [0; 64];
-    let a = &mut a[..words];
     let s = Size {
         rows: rows as u64,
         columns: columns as u64,
     };
-    let answer = pack(s, cells, a);
-    println!(rt;
-        "1 2 1 2 .. in {rows} rows of {columns} columns: {:08}",
-        number(answer)
+    number(pack(s, cells, a))
+}
+
+// Without a heap there is room for the most words that these sizes have, of which a part is lent.
+fn of_size(rt: &impl Print, rows: usize, columns: usize, words: usize) -> io::Result<()>
+    requires { (0 < columns) × («rows» * columns ≤ 2048) × (words ≤ 64) }
+{
+    let mut a = [0; 64];
+    let a = &mut a[..words];
+    let number = packed(rows, columns, a);
+    line(
+        rt,
+        format_args!("1 2 1 2 .. in {rows} rows of {columns} columns"),
+        number,
     )?;
+    let s = Size {
+        rows: rows as u64,
+        columns: columns as u64,
+    };
     totals(rt, s, a)
 }
 
